@@ -1,7 +1,7 @@
-"""Tests of confined connections, and of machrun that gives its command such ones.
+"""Tests of confined connections, and of machrun, which gives them to its command.
 
-`clients/test` runs them: `refused` and `renewed` are what the calls answer, `reach` lets a confined task try whatever there is
-to change another task's space, and `Confined` is machrun's side. A server without number 23 fails them.
+`clients/test` runs them. `refused` and `renewed` test the answers of calls. In `reach` a confined task tries everything
+that could change another task's space. `Confined` tests machrun. A server without call 23 fails them.
 """
 
 import contextlib
@@ -30,7 +30,7 @@ AT_ONCE = 64  # frames that a server takes of a connection before it answers
 
 
 class Wrong(Exception):
-    """What a server, or machrun, did otherwise."""
+    """A failed check: the server, or machrun, did something else than it should."""
 
 
 def wants(condition, what):
@@ -42,7 +42,7 @@ def wants(condition, what):
 
 
 class Connection:
-    """A connection, of which every frame and every reply is seen."""
+    """A connection on which frames are written and replies read one by one."""
 
     def __init__(self, path, *frames):
         self.socket = socket.socket(socket.AF_UNIX)
@@ -58,7 +58,7 @@ class Connection:
         self.socket.close()
 
     def ask(self, *frames):
-        """The replies to frames that are written at once."""
+        """Returns the replies to frames that are written at once."""
         self.socket.sendall(b"".join(words(len(it)) + it for it in frames))
         return [self.read(*struct.unpack("<I", self.read(4))) for _ in frames]
 
@@ -74,7 +74,7 @@ class Connection:
         return struct.unpack_from("<I", self.ask(frame)[0], 4)[0]
 
     def results(self, *numbers):
-        """The words after the code of a call that has to be done."""
+        """Makes a call that has to succeed. Returns the words after its code."""
         (reply,) = self.ask(words(*numbers))
         found = struct.unpack(f"<{len(reply) // 4}I", reply)
         wants(found[:2] == (numbers[0], 0), f"call {numbers} is answered with {found}")
@@ -82,12 +82,12 @@ class Connection:
 
 
 def send(disposition, name, *rest, option=machine.SEND_MSG | machine.SEND_TIMEOUT, bits=0, id_=7):
-    """The frame of a send that waits for nothing."""
+    """Returns the frame of a send that doesn't wait."""
     return words(MACH_MSG, option, 0, 0, 0, disposition | bits, 0, name, 0, 0, id_, *rest)
 
 
 def carrying(name, disposition, carried):
-    """The frame of a send with a right in its body."""
+    """Returns the frame of a send with a right in its body."""
     return send(machine.COPY_SEND, name, 0x10012000 | disposition, carried, bits=1 << 31)
 
 
@@ -96,7 +96,8 @@ def receive(name, limit=8192):
 
 
 def space_with(path, disposition=machine.MAKE_SEND):
-    """A new space of a new port of the first space: its number, the name of its right, and the port."""
+    """Makes a space with a right to a new port of the first space. Returns its number, the name of its right, and the
+    port."""
     with Connection(path) as first:
         (port,) = first.results(ALLOCATE, machine.RECEIVE)
         space, name = first.results(SPACE_CREATE, port, disposition)
@@ -111,7 +112,7 @@ def remove(path, *spaces):
 
 
 def others(path, but):
-    """The spaces other than these."""
+    """Returns the numbers of the spaces, other than the first one and these."""
     with Connection(path) as one:
         return [it for it in range(2, machine.MOST_SPACES + 1) if it not in but and not one.code(words(ATTACH, it))]
 
@@ -120,7 +121,8 @@ def others(path, but):
 
 
 def refused(server):
-    """An attach is refused after confine and not before, whatever the space; and confine itself is as it should be."""
+    """After confine an attach is refused, whatever the space, and before it isn't. Invalid forms of confine are
+    refused."""
     space, name, _ = space_with(server.path)
     with Connection(server.path) as one:
         for wanted in (FIRST, space, space):
@@ -142,8 +144,8 @@ def refused(server):
 
 
 def sample(name):
-    """A frame of each call, which a space with a receive right of this name would do, or refuse for its own reasons. Those that
-    take the right away are last."""
+    """Returns a frame of each call. A space with a receive right of this name would execute it, or refuse it for
+    reasons of its own. The calls that take the right away are last."""
     arguments = {ATTACH: [FIRST], 3: [name, 0x500], 4: [1, 0x600], 8: [name, 1], 9: [name, 1, 0], 16: [name, 72, 0, 0, 0]}
     arguments |= {10: [name, 3], 11: [name, 1], 12: [name, 1], 15: [name, 0], 17: [name, name, 20], 18: [name, 20], 20: [name, 20]}
     arguments |= {ALLOCATE: [1], 1: [], SPACE_DESTROY: [], CONFINE: []}
@@ -155,14 +157,14 @@ def sample(name):
 
 
 def gone(frame):
-    """The reply to a frame whose connection has no space."""
+    """Returns the reply to a frame on a connection whose space is gone."""
     number = frame[:4]
     return number + words(NO_TASK) + (words(0, 0) if number == words(MACH_MSG) else b"")
 
 
 def renewed(server):
-    """A space that is destroyed and made anew under its number: a confined connection to the first one is of no use, and
-    another one acts in the second."""
+    """A space is destroyed and a new one made with its number: a connection that was confined to the first one reaches
+    no space any more, and a connection that isn't confined acts in the second one."""
     space, _, port = space_with(server.path)
     with Connection(server.path, words(ATTACH, space), words(CONFINE)) as confined, Connection(server.path) as first, Connection(
         server.path, words(ATTACH, space)
@@ -186,8 +188,8 @@ def renewed(server):
 
 
 class Seen(Frames):
-    """Frames at random of a task that knows its own names by asking for them, and of the other space all that there is: its
-    number and its names. It goes for these wherever a call has room for one."""
+    """Random frames of a confined task. It lists its own names to know them, and it is given the other space's number
+    and names. It tries these wherever a call takes a number or a name."""
 
     def __init__(self, chance, own, other, names, may_destroy):
         of_machine = machine.Machine()
@@ -197,7 +199,8 @@ class Seen(Frames):
         self.other, self.names, self.may_destroy = other, names, may_destroy
 
     def see(self, reply):
-        """Takes the names in that a call of number 1 answered. Which port is whose isn't said, and not needed."""
+        """Records the names in a reply of call 1. The reply doesn't say which port a name belongs to, and that isn't
+        needed."""
         numbers = struct.unpack(f"<{len(reply) // 4}I", reply)
         held, ports = {}, {}
         for name, bits in zip(numbers[3::2], numbers[4::2]):
@@ -228,7 +231,7 @@ class Seen(Frames):
 
 
 def tempting(chance, own_names, other, names):
-    """Frames of every number there is, with the other space's number and names in the place of each argument."""
+    """Generates frames of every call number, with the other space's number and names as arguments."""
     choice = chance.choice
     values = [other, FIRST, machine.NULL, machine.DEAD, *names, *own_names]
     numbers = [*range(CONFINE + 2), 99, machine.LAST_WORD]
@@ -250,8 +253,9 @@ def tempting(chance, own_names, other, names):
 
 
 def prepared(path):
-    """Another task's space, with all kinds of names and with messages, and a confined task's. Gives the other's number and its
-    connection, the confined one's number, and a frame by which the first space sends it a send right to the other's port."""
+    """Makes the space of another task, with all kinds of names and with messages, and the space of a confined task.
+    Returns the other space's number, a connection to it, the confined task's space, and that space's name for a port
+    whose queue has a message with a send right to a port of the other space."""
     with Connection(path) as first:
         (given,) = first.results(ALLOCATE, machine.RECEIVE)
         first.results(17, given, given, machine.MAKE_SEND)
@@ -273,8 +277,8 @@ def prepared(path):
 
 
 def of_space(lines, space):
-    """What a listing has of a space: its names, and the ports that it holds. Of the port 0x100 that others may send to, what
-    they do so doesn't count."""
+    """Returns what a listing says of a space: its names, and the ports that it holds. What others change by sending to
+    its port 0x100 is left out."""
     begin = lines.index(f"space {space}")
     names = []
     for line in lines[begin + 1 :]:
@@ -288,8 +292,8 @@ def of_space(lines, space):
 
 
 def try_round(server, kept, seed, frames, is_confined=True):
-    """One confined task alongside one other, and then no spaces but those that are kept. Gives the other's listing before and
-    after, the codes of the attaches, and how many frames there were."""
+    """Runs a confined task alongside another task, and then removes all spaces but those in `kept`. Returns the other
+    space's listing before and after, the codes of the attaches, and the number of frames."""
     chance, attaches = random.Random(seed), set()
     other, its, own, own_name = prepared(server.path)
     with its, Connection(server.path, words(ATTACH, own)) as one:
@@ -320,8 +324,8 @@ def try_round(server, kept, seed, frames, is_confined=True):
 
 
 def reach(server, rounds, frames):
-    """In so many rounds of so many frames a confined task changes nothing of another's space. The same frames without confine
-    do, so this would be seen."""
+    """A confined task changes nothing of another task's space, in this many rounds of this many frames. The same frames
+    do change something without confine, so the test would notice it."""
     made, known = 0, {words(NO_ACCESS), words(NO_CALL), words(NO_TASK)}
     kept = set(others(server.path, ()))
     for seed in range(rounds):
@@ -336,7 +340,7 @@ def reach(server, rounds, frames):
 
 # machrun, which gives a confined command its connections.
 
-# What the programs below begin with.
+# The beginning of each program below.
 PRELUDE = """
 import array, contextlib, os, socket, sys, threading, time
 from machipc import *
@@ -416,7 +420,7 @@ sys.stdin.readline()
 
 
 def ended(*words_of, seconds=60, **more):
-    """A program that has ended, with what it said."""
+    """Runs a program to its end. Returns its status and its output."""
     try:
         return subprocess.run(words_of, capture_output=True, text=True, timeout=seconds, **more)
     except subprocess.TimeoutExpired:
@@ -424,7 +428,7 @@ def ended(*words_of, seconds=60, **more):
 
 
 def is_running(process):
-    """Whether it hasn't ended, be it that nobody has asked for its status yet."""
+    """Returns True if a process runs. One that has ended and whose status nobody has read yet doesn't."""
     try:
         return pathlib.Path(f"/proc/{process}/stat").read_text().rsplit(")", 1)[1].split()[0] != "Z"
     except OSError:
@@ -443,7 +447,7 @@ def children_of(process):
 
 
 class Confined:
-    """What machrun does for a confined command. `program` is tests/confined.c, built."""
+    """Tests of machrun with confined commands. `program` is tests/confined.c, built."""
 
     def __init__(self, machrun, program, server):
         self.machrun, self.program, self.server = machrun, program, server
@@ -454,7 +458,7 @@ class Confined:
 
     @contextlib.contextmanager
     def running(self, text, *options, status=0, **environment):
-        """A confined program, which has said a line. Its errors are on its standard output."""
+        """Runs a confined program, and waits for its first line. Its errors go to its standard output."""
         at = {**os.environ, "PYTHONPATH": str(HERE / "python"), **environment}
         pipes = {"stdin": subprocess.PIPE, "stdout": subprocess.PIPE, "stderr": subprocess.STDOUT}
         with subprocess.Popen(self.command(text, *options), text=True, env=at, **pipes) as ran:
@@ -470,13 +474,14 @@ class Confined:
         wants(ran.returncode == status, f"machrun ended with {ran.returncode}: {ran.first}{ran.rest}")
 
     def ended(self, text, *options, status=0, **environment):
-        """All that a confined program says, to its end."""
+        """Runs a confined program to its end, and returns its output."""
         with self.running(text, *options, status=status, **environment) as ran:
             pass
         return ran.first + ran.rest
 
     def broker(self, ran):
-        """The process that answers the command's requests, and the one above it, which is machrun's child alongside the command."""
+        """Returns the processes of the broker: the worker, which answers requests, and the one above it, which is
+        machrun's child alongside the command."""
         end = time.monotonic() + 10
         while True:
             above = [it for it in children_of(ran.pid) if pathlib.Path(f"/proc/{it}/comm").read_text() == "machrun\n"]
@@ -503,12 +508,12 @@ say(refusal(task.attach, 1), refusal(task.attach, 99), refusal(task.attach, task
 """)
         lines = said.split("\n")
         wants(lines[0] == "False True 1 True 1", f"the command's environment: {said}")
-        # The module refuses the first two by itself, and the last one is asked of the server.
+        # The module refuses the first two attaches by itself; the last one goes to the server.
         wants(lines[1].startswith("KERN_NO_ACCESS KERN_NO_ACCESS None KERN_NO_ACCESS "), f"attaches of the command: {said}")
         wants(not self.is_there(int(lines[1].split()[-1])), "the command's space is there after it")
 
     def check_many_in_c(self):
-        """Threads and children of fork, each with connections of their own, under kills of the server."""
+        """Threads and forked children, each with connections of its own, while the server is killed."""
         with self.server.killed_often(8, 0.3, 0.8) as kills:
             ran = ended(self.machrun, self.server.path, self.program, "4", seconds=120)
         wants(ran.returncode == 0 and not ran.stderr, f"the program in C: {ran.returncode} {ran.stdout} {ran.stderr}")
@@ -541,7 +546,7 @@ say(os.waitpid(pid, 0)[1], len(task.names()), refusal(task.attach, 1))
         wants(said == "0 301 KERN_NO_ACCESS\n", f"the program in Python says {said}")
 
     def check_killed_server(self):
-        """A call that the kill cuts off is reported, and the next one is made on a new connection, as without machrun."""
+        """A call that the kill cut is reported, and the next one is made on a new connection, as without machrun."""
         with self.running("""
 task = Task.adopt()
 say("ready")
@@ -556,8 +561,9 @@ sys.stdin.readline()
         wants(re.fullmatch(r"MACH_(RCV|SEND)_INTERRUPTED 1\n", said), f"after a kill: {said}")
 
     def check_number_of_another(self):
-        """The command's space is destroyed, and another one gets its number: machrun gives no connections to that one, and
-        doesn't destroy it. Where machrun has lost its connection meanwhile, it says so of a space that it can't know."""
+        """The command's space is destroyed, and another space gets its number. machrun gives no connections to that
+        space and doesn't destroy it. If machrun lost its own connection meanwhile, it reports that the space wasn't
+        destroyed, because it can't recognise it."""
         for is_restarted in (False, True):
             text = """
 task = Task.adopt()
@@ -580,8 +586,8 @@ print(refusal(Task.adopt))
             remove(self.server.path, space)
 
     def check_first_name(self):
-        """A command that gives its first name up gets no more connections, and its space ends with it all the same. After a
-        server that was started again machrun doesn't know it any more."""
+        """A command that gives up its first name gets no more connections, but its space is still destroyed when it
+        ends. After a restart of the server machrun can't recognise the space any more, and it stays."""
         for is_restarted in (False, True):
             text = """
 task = Task.adopt()
@@ -603,7 +609,7 @@ sys.stdin.readline()
         wants(said == "KERN_INVALID_TASK KERN_INVALID_TASK\n", f"after its space's end: {said}")
 
     def check_garbage(self):
-        """What comes over MACHIPC_FD and is no request stops nobody and leaves no descriptor with machrun."""
+        """Invalid requests over MACHIPC_FD stop nobody and leave no descriptor with the broker."""
         with self.running(GARBAGE) as ran:
             for it in self.broker(ran) if os.geteuid() == 0 else ():
                 left = os.listdir(f"/proc/{it}/fd")
@@ -612,9 +618,9 @@ sys.stdin.readline()
 
     @contextlib.contextmanager
     def held_up(self, text, place, count):
-        """A confined program whose broker waits in a close, where the program's own close wasn't the last one. What is closed is
-        the first descriptor of a message or a further one, and more such messages may be in the queue. The bytes that it waits
-        for are this program's to take, so the wait doesn't end with the command."""
+        """Runs a confined program whose worker blocks in a close. It closes the last copy of a connection, which is the
+        first descriptor of a message or a further one; `count` such messages are sent. The bytes that the close waits
+        for are for this program to read, so the close doesn't return when the command ends."""
         listener = socket.create_server(("127.0.0.1", 0))
         hold_up = f"""
 task = Task.adopt()
@@ -638,7 +644,7 @@ began = time.monotonic()
             yield ran
 
     def check_command_that_holds_its_broker_up(self):
-        """machrun sees the command's end at once, whatever its broker waits for, and leaves no process."""
+        """machrun notices the command's end at once, whatever its broker waits for, and leaves no process behind."""
         for place in (0, 1):
             began = time.monotonic()
             with self.held_up("sys.stdin.readline()\nos._exit(0)\n", place, 3) as ran:
@@ -648,8 +654,8 @@ began = time.monotonic()
             wants(not any(map(is_running, brokers)), "a broker that is held up stays")
 
     def check_broker_that_ends(self):
-        """A broker that is killed is started again. One whose pair was shut down isn't, and neither is one whose upper process is
-        killed; the command goes on with the connections that it has."""
+        """A worker that is killed is started again. It isn't if the pair was shut down, or if the process above it is
+        killed; the command then continues with the connections that it has."""
         text = """
 task = Task.adopt()
 say("ready")
@@ -673,7 +679,7 @@ sys.stdin.readline()
             wants(re.fullmatch(f"{wanted}\nMACH_SEND_INTERRUPTED None\n", said), f"a broker's end: {said}")
 
     def check_killed_machrun(self):
-        """The broker ends with machrun; the command goes on with the connections that it has."""
+        """The broker ends with machrun; the command continues with the connections that it has."""
         with self.running("task = Task.adopt()\nsay(os.getpid(), task.space)\nsys.stdin.readline()\n"
                           "say(refusal(task.allocate), refusal(Task.adopt))\n", status=-signal.SIGKILL) as ran:
             space, brokers = int(ran.first.split()[1]), self.broker(ran)
@@ -684,7 +690,7 @@ sys.stdin.readline()
         remove(self.server.path, space)
 
     def check_kept(self):
-        """Each start has a pair of its own, in the same space."""
+        """Each start of the command has a new pair of sockets, in the same space."""
         text = """
 task = Task.adopt()
 say(task.start, task.space, len(task.names()))
@@ -698,7 +704,7 @@ sys.exit(task.start < 2)
         wants((first, second) == (f"1 {space} 1", f"2 {space} 2"), f"--keep: {first}, {second}")
 
     def check_adopted(self):
-        """A command in a space that somebody else made, and that stays."""
+        """A command in a space that somebody else made. The space stays."""
         space, name, _ = space_with(self.server.path)
         given = {"MACHIPC_SOCKET": self.server.path, "MACHIPC_SPACE": str(space), "MACHIPC_BOOTSTRAP": hex(name)}
         text = "task = Task.adopt()\nsay(task.space, task.bootstrap, task.start, len(task.names()), refusal(task.attach, 1))\n"
@@ -710,7 +716,7 @@ sys.exit(task.start < 2)
             wants(said == f"machrun: {wanted}\n", f"--adopt without a space: {said}")
 
     def check_within(self):
-        """A confined command can't start tasks; one of machrun --open can, and these are confined."""
+        """A confined command can't start tasks. A command of machrun --open can, and these tasks are confined."""
         inner = f"{self.machrun} {self.server.path} sh -c 'echo $MACHIPC_SPACE ${{MACHIPC_FD:-open}} ${{MACHIPC_SOCKET:-confined}}'"
         for options, wanted in ((), 125), (("--open",), 0):
             ran = ended(self.machrun, *options, self.server.path, "sh", "-c", inner)
@@ -718,11 +724,12 @@ sys.exit(task.start < 2)
             said = "a confined task can't start tasks" in ran.stderr if wanted else re.fullmatch(r"\d+ \d+ confined\n", ran.stdout)
             wants(said, f"machrun within machrun {options} says {ran.stdout} {ran.stderr}")
 
-    # Who may open the socket.
+    # Opening the socket.
 
     def can_open(self, *options, folder=None):
-        """Whether the command of a machrun with these options opens the socket's path, and what machrun says. A second machrun
-        tries, to which the first one's descriptor isn't shown. With a folder both are in that of the socket."""
+        """Returns True if the command of a machrun with these options can open the socket's path, and what machrun
+        prints. The command is a second machrun, which doesn't know of the first one's descriptor. If a folder is given,
+        both run in it, and it is the socket's folder."""
         path = self.server.path if folder is None else "./socket"
         inner = ["env", "-u", "MACHIPC_FD", self.machrun, "--open", path, "true"]
         ran = ended(self.machrun, *options, path, *inner, cwd=folder)
@@ -743,7 +750,7 @@ sys.exit(task.start < 2)
             folder = os.path.dirname(self.server.path)
             wants(not self.can_open(*options, folder=folder)[0], f"the command opens a hidden socket from its folder, {options}")
             wants(not self.restarts_and_opens(*options), f"the command opens a hidden socket that was made anew, {options}")
-        # A folder with something else isn't hidden, so that permissions are all there is.
+        # A folder that contains another file isn't hidden, so only the permissions protect the socket.
         other = pathlib.Path(self.server.path).with_name("other")
         other.touch()
         for mode, options, wanted in (0o777, (), True), (0o777, as_nobody, True), (0o700, as_nobody, False):
@@ -760,7 +767,7 @@ sys.exit(task.start < 2)
             wants(ended(self.machrun, *options, self.server.path, "true").returncode == 125, f"machrun {options}")
 
     def restarts_and_opens(self, *options):
-        """Whether a command opens the socket of a server that was started again after the command was."""
+        """Returns True if a command can open the socket after the server was started again."""
         path = self.server.path
         opens = f"read line; env -u MACHIPC_FD {self.machrun} --open {path} true; echo $?"
         with subprocess.Popen([self.machrun, *options, path, "sh", "-c", f"echo; {opens}"], stdin=subprocess.PIPE,
@@ -772,7 +779,8 @@ sys.exit(task.start < 2)
         return said.strip() != "125"
 
     def check_ordinary_user(self):
-        """machrun of an ordinary user: no such user reads its memory or takes its descriptors, and --user is refused."""
+        """machrun of an ordinary user: no process of that user reads its memory or takes its descriptors, and --user is
+        refused."""
         if os.geteuid() != 0:
             return
         os.chmod(self.server.path, 0o777)
@@ -780,7 +788,7 @@ sys.exit(task.start < 2)
         with subprocess.Popen([self.machrun, self.server.path, "sh", "-c", "echo; read line; exit 6"], stdin=subprocess.PIPE,
                               stdout=subprocess.PIPE, text=True, **nobody) as ran:
             ran.stdout.readline()
-            # The system gives the files of a process that can't be traced to root.
+            # The system makes root the owner of these files if a process can't be traced.
             owners = {os.stat(f"/proc/{it}/mem").st_uid for it in (ran.pid, *self.broker(ran))}
             ran.communicate("\n", timeout=60)
         wants(ran.returncode == 6 and owners == {0}, f"machrun of an ordinary user: {ran.returncode}, {owners}")
@@ -789,11 +797,11 @@ sys.exit(task.start < 2)
 
 
 def machrun_checks(machrun, program, server):
-    """All checks of Confined. Gives what is said of them."""
+    """Runs all checks of Confined. Returns a summary."""
     of = Confined(machrun, program, server)
     checks = [it for it in dir(of) if it.startswith("check_")]
-    # A broker that is held up ends after a while, and is started again. The command stays until all else is checked, since
-    # others reckon with the number of its space.
+    # A worker that is blocked ends after a while, and is started again. This command ends last, since the other checks
+    # depend on the number of its space.
     text = """
 while refusal(Task.adopt):
     time.sleep(0.1)

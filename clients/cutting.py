@@ -1,7 +1,8 @@
 """A relay in front of a server's socket that cuts connections at random, for tests of the clients.
 
-A frame may be lost before the server has it; the call may be made and its reply lost, whole or within; the client may come
-again by another connection while the first call is being made; and a connection that waits may be cut.
+A connection may be cut before the server has the frame, or after the call was made, with the reply lost as a whole or
+in part. The client may repeat the call on another connection while the first one is still being executed, and a
+connection that waits may be cut.
 """
 
 import contextlib
@@ -16,7 +17,7 @@ CUTS = ("before", "at once", "after", "within", "waiting")
 
 
 def read_frame(from_socket):
-    """A whole frame with its length, or None at the end."""
+    """Returns a frame with its length, or None at the end of the stream."""
     text = b""
     while len(text) < 4 or len(text) < 4 + struct.unpack_from("<I", text)[0]:
         wanted = 4 + struct.unpack_from("<I", text)[0] if len(text) >= 4 else 4
@@ -28,7 +29,8 @@ def read_frame(from_socket):
 
 
 class Cutting:
-    """A socket at `path`, whose connections go on to the server at `server_path`. Of a thousand frames `rate` are cut."""
+    """A socket at `path` that passes connections on to the server at `server_path`, and cuts `rate` of a thousand
+    frames."""
 
     def __init__(self, server_path, rate, seed):
         self.path, self.server_path, self.rate = f"{server_path}.cut", server_path, rate / 1000
@@ -75,7 +77,7 @@ class Cutting:
             return how
 
     def exchange(self, client, server):
-        """One frame and its reply. Whether the connection goes on."""
+        """Passes on one frame and its reply. Returns False if the connection has ended."""
         frame = read_frame(client)
         how = self.choose() if frame else "before"
         if how == "before":
@@ -88,7 +90,7 @@ class Cutting:
         return how != "within"
 
     def reply(self, client, server):
-        """The reply, or None where the client or the server ends the connection first."""
+        """Returns the reply, or None if the client or the server closes the connection first."""
         with self.lock:
             self.waiting.add(client)
         try:

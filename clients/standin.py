@@ -1,10 +1,11 @@
 #!/usr/bin/env python3
-"""A stand-in for the server, for tests of the clients: the machine of stress/machine.py on a Unix socket.
+"""A stand-in for the server, for tests of the clients: the model of stress/machine.py on a Unix socket.
 
     clients/standin.py SOCKET [FILE]
 
-It has what clients see of a server on a socket, waiting and numbered requests too. Each change is in FILE before it is
-answered, and one that is killed and started again goes on from there; a power failure isn't thought of.
+It does all that clients see of a server on a socket, with waiting calls and numbered requests. Each change is written
+to FILE before it is answered, so a stand-in that is killed and started again continues with the same state. It isn't
+made for power failures.
 """
 
 import argparse
@@ -26,7 +27,7 @@ from machine import MACH_RCV_IN_SET, MACH_RCV_INVALID_NAME, MACH_RCV_TIMED_OUT  
 from machine import MACH_SEND_TIMED_OUT, RCV_MSG, RCV_TIMEOUT, SEND_MSG, SEND_TIMEOUT  # noqa: E402
 
 LONGEST = 65_532
-# What a receive's refusals become after a wait.
+# The codes that replace a receive's refusals after a wait.
 AFTER_A_WAIT = {MACH_RCV_INVALID_NAME: 0x10004009, MACH_RCV_IN_SET: 0x10004006}
 
 
@@ -35,7 +36,8 @@ def words(*values):
 
 
 def is_closed(its_socket):
-    """Whether the other side has closed it. To write nothing fails then, whatever is to be read yet."""
+    """Returns True if the other side has closed the socket. Then a write of no bytes fails, even if there are bytes
+    left to read."""
     try:
         its_socket.send(b"")
     except OSError:
@@ -44,7 +46,7 @@ def is_closed(its_socket):
 
 
 class Connection(machine.Connection):
-    """A socket, what was read of it, and a call that waits: its half and the one after it, and when the wait is over."""
+    """A socket, the bytes read from it, and a call that waits: its halves still to be made, and the deadline."""
 
     def __init__(self, of_machine, its_socket):
         super().__init__(of_machine)
@@ -118,7 +120,7 @@ class Standin:
         self.again()
 
     def store(self):
-        """Writes the state down where it changed."""
+        """Writes the state to the file if it changed."""
         if not self.file or self.stored == self.machine.records:
             return
         with open(f"{self.file}.new", "wb") as new:
@@ -136,7 +138,7 @@ class Standin:
     # Calls.
 
     def begin(self, connection, frame):
-        """The reply, or None where the call waits."""
+        """Returns the reply, or None if the call waits."""
         (number,) = struct.unpack_from("<I", frame)
         arguments = frame[4:]
         if number != MACH_MSG or len(arguments) < 16:
@@ -160,8 +162,8 @@ class Standin:
         connection.has_waited = False
 
     def attempt(self, connection):
-        """The reply of the half that is made now, or of the one after it, or None where it waits. A client that has gone gets
-        no message, so one that was sent after that stays."""
+        """Makes the next half of a call, and the one after it if that one succeeds. Returns the reply, or None if the
+        call waits. If the client has closed its connection, the call isn't made, so no message is lost to it."""
         if connection.has_waited and is_closed(connection.socket):
             self.end(connection)
             return None
@@ -180,7 +182,7 @@ class Standin:
         return words(MACH_MSG, code, size, member) + text
 
     def again(self):
-        """Tries what waits, until nothing that is done lets another one go on."""
+        """Tries the calls that wait, until none of them makes progress."""
         is_done = False
         while not is_done:
             is_done = True

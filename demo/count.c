@@ -1,6 +1,8 @@
-/* Counts what a program that it is loaded into allocates and copies, in the file COUNT_AT, as four numbers of 64 bits: how
-   many allocations, how many bytes they have, how many copies, how many bytes they have. Copies that the compiler writes
-   out, of few bytes, aren't seen. */
+/*
+ * Counts the allocations and copies of a program that loads it, in the file COUNT_AT, as four 64-bit numbers: the
+ * number of allocations, their bytes, the number of copies, their bytes. Short copies that the compiler inlines aren't
+ * counted.
+ */
 #define _GNU_SOURCE
 #include <dlfcn.h>
 #include <fcntl.h>

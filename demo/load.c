@@ -96,7 +96,7 @@ static void count_call(struct share *share, int64_t began)
     share->within[bucket_of((uint64_t)(now() - began) / 1000)]++;
 }
 
-/* Appends a frame of these words. Returns how many bytes it has. */
+/* Appends a frame with these words. Returns its length in bytes. */
 static size_t put_frame(unsigned char *at, const uint32_t *words, size_t count)
 {
     put_word(at, (uint32_t)(4 * count));
@@ -119,7 +119,7 @@ static size_t put_call(unsigned char *at, const struct connection *it, uint32_t 
     return number == MACH_MSG ? put_frame(at, message, 12) : put_frame(at, other, 2);
 }
 
-/* Writes as many frames as there are at once. */
+/* Writes `count` frames at once. */
 static void ask(struct connection *it, uint32_t number, int count)
 {
     unsigned char out[MOST_FRAMES * 4 * MOST_WORDS];
@@ -137,7 +137,7 @@ static size_t reply_size(uint32_t number)
     return number == MACH_MSG ? REPLY_BYTES : number == DESTROY ? 12 : 16;
 }
 
-/* Takes the replies that have come. Returns whether all have. */
+/* Takes the replies that have come. Returns true if all have. */
 static int take(struct connection *it, struct share *share, int count)
 {
     size_t size = reply_size(it->number), at = 0;
@@ -226,7 +226,7 @@ static uint32_t read_reply(struct connection *it, size_t index)
     return 4 * index < size ? word_at(bytes + 4 + 4 * index) : 0;
 }
 
-/* Waits for a message at a port, and answers it by the right that came with it. */
+/* Waits for a message at a port, and replies by the right that came with it. */
 static void answer(struct connection *it, uint32_t port)
 {
     unsigned char out[4 + 4 * MOST_WORDS];
@@ -237,7 +237,7 @@ static void answer(struct connection *it, uint32_t port)
     read_reply(it, 0);
 }
 
-/* One connection asks the other, by as many messages at once as there are frames. */
+/* One connection sends requests to the other, as many at once as there are frames. */
 static void *serve_pair(void *argument)
 {
     struct share *share = argument;

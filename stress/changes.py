@@ -1,4 +1,4 @@
-"""What ends a wait beside time and a client that goes, and what doesn't."""
+"""Tests which events other than a timeout or a disconnect end a wait, and which don't."""
 
 import time
 from dataclasses import dataclass, replace
@@ -61,7 +61,8 @@ from store import Difference
 
 
 class Scene:
-    """A space of its own. `port` has room and no message, `full` one message and no room, `other` is a port beside them, `set` a set."""
+    """A space of its own. `port` has room and no message, `full` has one message and no room, `other` is another port,
+    `set` is a set."""
 
     def __init__(self, server):
         self.server = server
@@ -82,13 +83,13 @@ class Scene:
         return self.clients[-1]
 
     def beside(self, name, disposition=MAKE_SEND):
-        """A client in a new space that gets this right, and the right's name there."""
+        """Returns a client in a new space that gets this right, and the right's name there."""
         space, far = self.owner.call(SPACE_CREATE, name, disposition)
         self.spaces.append(space)
         return self.client(space), far
 
     def waits(self, frame, client=None):
-        """A client that waits in this call."""
+        """Returns a client that waits in this call."""
         client = client or self.client()
         client.write(frame)
         time.sleep(APART)
@@ -110,7 +111,8 @@ LESS_ONE, ELSEWHERE = 0xFFFFFFFF, 0x9000
 
 @dataclass
 class Change:
-    """What ends a wait: what is done, the code that the wait ends with, the message that comes, and what is done before the wait."""
+    """An event that ends a wait: the event, the code with which the wait ends, the message that comes, and the event
+    before the wait."""
 
     what: str
     make: object
@@ -119,7 +121,7 @@ class Change:
     before: object = None
 
 
-# Of a receipt from a name, a port's or a set's (`source`, with the right `right`).
+# Receives from a name, a port's or a set's (`source`, with the right `right`).
 OF_NAMES = [
     Change("its name is destroyed", lambda it: it.owner.call(DESTROY, it.source), MACH_RCV_PORT_DIED),
     Change("its name is renamed", lambda it: it.owner.call(RENAME, it.source, ELSEWHERE), MACH_RCV_PORT_DIED),
@@ -127,7 +129,7 @@ OF_NAMES = [
     Change("its space is destroyed", lambda it: it.owner.call(SPACE_DESTROY), KERN_INVALID_TASK),
 ]
 
-# Of a receipt from a port's name alone.
+# Receives from a port's name only.
 OF_PORTS = [
     Change("the port is moved into a set", lambda it: it.owner.call(MOVE_MEMBER, it.port, it.set), MACH_RCV_PORT_CHANGED),
     Change("the receive right is sent away", lambda it: it.owner.send(it.other, 1, ports(MOVE_RECEIVE, it.port)), MACH_RCV_PORT_DIED),
@@ -147,7 +149,7 @@ OF_PORTS = [
     ),
 ]
 
-# Of a receipt from a set alone.
+# Receives from a set only.
 OF_SETS = [
     Change("a member with a message is moved in", lambda it: it.owner.call(MOVE_MEMBER, it.full, it.set), number=0),
     Change(
@@ -170,17 +172,17 @@ OF_SETS = [
 
 
 def carry(scene):
-    """A send-once right to the port is in a message of the other one."""
+    """Puts a send-once right to the port into a message of the other port."""
     scene.owner.send(scene.other, 0, ports(MAKE_SEND_ONCE, scene.port))
 
 
 def once(scene):
-    """The port's send-once right gets a name, which asks for a notice."""
+    """Gives the port's send-once right a name, with a request for a notice."""
     scene.once, _ = scene.owner.call(EXTRACT_RIGHT, scene.port, MAKE_SEND_ONCE)
 
 
 def watched(scene):
-    """A name with a send-once right to the other port, and the request to tell of it."""
+    """Returns a name with a send-once right to the other port, and a request for a notice about it."""
     scene.once, _ = scene.owner.call(EXTRACT_RIGHT, scene.other, MAKE_SEND_ONCE)
     scene.request(scene.once, DEAD_NAME_NOTICE)
 
@@ -193,7 +195,7 @@ def far_once(scene):
     scene.far, scene.far_name = scene.beside(scene.port, MAKE_SEND_ONCE)
 
 
-# Of both, as a message comes.
+# Both kinds, when a message comes.
 BY_MESSAGES = [
     Change("a message comes", lambda it: it.owner.send(it.port, 9), number=9),
     Change("a message comes by a right made for it", lambda it: it.owner.send(it.port, 9, disposition=MAKE_SEND_ONCE), number=9),
@@ -241,7 +243,7 @@ BY_MESSAGES = [
 ]
 
 
-# Of a send to a full queue, from the space of its receiver.
+# Sends to a full queue, from the space of its receiver.
 OF_SENDS = [
     Change("a message is received", lambda it: it.owner.take(it.full)),
     Change("a message is destroyed", lambda it: it.owner.ask(receiving(it.full, timeout=0, limit=0))),
@@ -254,7 +256,7 @@ OF_SENDS = [
     Change("the space is destroyed", lambda it: it.owner.call(SPACE_DESTROY), KERN_INVALID_TASK),
 ]
 
-# Of the same from another space.
+# The same from another space.
 OF_FAR_SENDS = [
     *OF_SENDS[:6],
     Change("the port's space is destroyed", lambda it: it.owner.call(SPACE_DESTROY), MACH_SEND_INVALID_DEST),
@@ -263,7 +265,7 @@ OF_FAR_SENDS = [
     Change("the sender's space is destroyed", lambda it: it.far.call(SPACE_DESTROY), KERN_INVALID_TASK),
 ]
 
-# Of a send with another right: the other port's, to reply by or in the body.
+# Sends with another right: the other port's, as the reply right or in the body.
 OF_SENDS_WITH_RIGHTS = [
     Change("the right's name is destroyed", lambda it: it.owner.call(DESTROY, it.other)),
     Change("the right's name is renamed", lambda it: it.owner.call(RENAME, it.other, ELSEWHERE)),
@@ -331,7 +333,7 @@ def wait_with_body(scene):
 
 
 def one_change(server, who, change, wait):
-    """How many seconds after the change the wait was answered."""
+    """Returns the seconds from the event to the reply of the wait."""
     scene = Scene(server)
     if change.before:
         change.before(scene)
@@ -346,7 +348,7 @@ def one_change(server, who, change, wait):
 
 
 def others_go_on(scene):
-    """What happens to the same name of another space ends no wait."""
+    """Tests that events at the same name of another space end no wait."""
     other = Scene(scene.server)
     at_port, at_full = scene.waits(receiving(scene.port)), scene.waits(sending(scene.full, 9))
     if (other.port, other.full) != (scene.port, scene.full):
@@ -363,7 +365,7 @@ def others_go_on(scene):
 
 
 def set_goes_on(scene):
-    """What happens to a port that left its set, or goes, ends no receipt from the set."""
+    """Tests that events at a port that left its set, or was destroyed, end no receive from the set."""
     scene.owner.call(MOVE_MEMBER, scene.port, scene.set)
     scene.owner.call(MOVE_MEMBER, scene.other, scene.set)
     at_set = scene.waits(receiving(scene.set))
@@ -379,7 +381,7 @@ def set_goes_on(scene):
 
 
 def port_in_transit(scene):
-    """A send to a port whose receive right travels waits on, until it is received from again."""
+    """Tests that a send to a port whose receive right is in a message waits until a receive frees room again."""
     far_sender(scene, "full")
     client = scene.waits(sending(scene.far_name, 9), scene.client(scene.spaces[-1]))
     by_receiver = scene.waits(sending(scene.full, 8, disposition=MAKE_SEND))
@@ -398,7 +400,7 @@ def port_in_transit(scene):
 
 
 def port_in_a_notice(scene):
-    """A port whose receive right goes to the one who asked for it lives on, with its queue."""
+    """Tests that a port whose receive right goes to the target of its request stays live, with its queue."""
     far_sender(scene, "full")
     client = scene.waits(sending(scene.far_name, 9), scene.client(scene.spaces[-1]))
     scene.request(scene.full, PORT_DESTROYED)
@@ -410,7 +412,7 @@ def port_in_a_notice(scene):
 
 
 def limit_for_some(scene):
-    """As many sends as there is room for are answered."""
+    """Tests that as many sends are answered as there is room for."""
     waiting = [scene.waits(sending(scene.full, it)) for it in range(1, 6)]
     for limit, room in ((3, 2), (0, 0), (4, 1), (MOST_QUEUED, 2)):
         scene.owner.call(SET_QLIMIT, scene.full, limit)
@@ -423,7 +425,7 @@ def limit_for_some(scene):
 
 
 def both_halves(scene):
-    """A send waits, and then the receipt behind it."""
+    """Tests that a send waits, and then the receive in the same call."""
     client = scene.waits(exchanging(scene.full, 9, scene.port))
     scene.owner.take(scene.full)
     expect_still("a receipt behind a send that waited", [client])
@@ -435,7 +437,8 @@ def both_halves(scene):
 
 
 def name_used_again(scene):
-    """A receipt whose name is another port's at once is told that it went, or waits for that port's message."""
+    """Tests a receive whose name is reused for another port at once: it ends with the code of a removed name, or waits
+    for the new port's message."""
     for number in range(25):
         client = scene.waits(receiving(scene.port))
         scene.owner.write(words(DESTROY, scene.port), words(ALLOCATE_NAME, RECEIVE, scene.port))
@@ -449,7 +452,7 @@ def name_used_again(scene):
 
 
 def over_in_time(scene):
-    """What waits for a third of a second ends with it, and not before."""
+    """Tests that a call that waits for a third of a second ends after that time, and not before."""
     for frame, code in (
         (receiving(scene.port, timeout=300), MACH_RCV_TIMED_OUT),
         (receiving(scene.set, timeout=300), MACH_RCV_TIMED_OUT),

@@ -25,30 +25,30 @@ from machine import (
 )
 from store import Difference, framed
 
-# The calls that the parts make, by their numbers.
+# The calls of the parts, by their numbers.
 ATTACH, NAMES, TYPE, RENAME, ALLOCATE_NAME, ALLOCATE, DESTROY, DEALLOCATE = range(8)
 MOD_REFS, SET_QLIMIT, SET_SEQNO, RECEIVE_STATUS, SET_STATUS, MOVE_MEMBER = 9, 10, 12, 13, 14, 15
 REQUEST, INSERT_RIGHT, EXTRACT_RIGHT, SPACE_CREATE, SPACE_DESTROY = 16, 17, 18, 20, 21
 
 MACH_RCV_PORT_CHANGED, MACH_RCV_PORT_DIED = 0x10004006, 0x10004009
 
-# How many seconds apart calls are written whose order counts, so that each waits before the next one comes.
+# Seconds between calls whose order matters, so that each waits before the next one arrives.
 APART = 0.05
 
-# For how many seconds is looked that nothing is answered.
+# Seconds during which it is checked that nothing is answered.
 STILL = 0.2
 
 TEN_MINUTES = 600_000
 
-# Within how many seconds a call is answered once there is something that ends its wait.
+# Maximum seconds until a call is answered after the event that ends its wait.
 PROMPT = 2
 
-# Where a reply has its code, and one of a receipt the size, the name of the port and the message's id.
+# Offsets in a reply: the code; and for a receive the size, the name of the port and the message's id.
 CODE, SIZE, MEMBER, ID = 1, 2, 3, 9
 
 
 def ports(disposition, *names):
-    """An item of a body."""
+    """Returns an item of a body."""
     return words(disposition | 32 << 8 | len(names) << 16 | IN_LINE, *names)
 
 
@@ -57,7 +57,7 @@ def message(name, number, disposition, *body):
 
 
 def sending(name, number, *body, timeout=None, disposition=COPY_SEND):
-    """A send of a message of this number, which waits for ever or for so many milliseconds."""
+    """Returns a send of a message with this number, which waits without a timeout, or for these milliseconds."""
     option = SEND_MSG | (0 if timeout is None else SEND_TIMEOUT)
     return words(MACH_MSG, option, 0, 0, timeout or 0) + message(name, number, disposition, *body)
 
@@ -68,7 +68,7 @@ def receiving(name, timeout=None, limit=8192, option=0):
 
 
 def exchanging(name, number, source, disposition=COPY_SEND):
-    """A send, and behind it a receipt that waits."""
+    """Returns a send followed by a receive that waits."""
     return words(MACH_MSG, SEND_MSG | RCV_MSG, 8192, source, 0) + message(name, number, disposition)
 
 
@@ -78,7 +78,7 @@ class Client:
     def __init__(self, path, space=1):
         self.socket = socket.socket(socket.AF_UNIX)
         self.socket.connect(path)
-        # When the connection was ended, and whether nothing was on its way then.
+        # The time at which the connection was ended, and true if no call was pending then.
         self.unread, self.gone_at, self.was_calm = b"", None, False
         if space != 1:
             self.call(ATTACH, space)
@@ -90,7 +90,7 @@ class Client:
         self.socket.sendall(framed(*frames))
 
     def next(self):
-        """The next whole reply of what was read, as words."""
+        """Returns the next whole reply in the bytes that were read, as words."""
         if len(self.unread) < 4:
             return None
         (length,) = struct.unpack_from("<I", self.unread)
@@ -101,7 +101,7 @@ class Client:
         return struct.unpack(f"<{length // 4}I", content[: length // 4 * 4])
 
     def reply(self, within=PROMPT):
-        """The next reply; None where it didn't come within so many seconds (None: where it may take for ever)."""
+        """Returns the next reply, or None if it doesn't come within these seconds (None: no timeout)."""
         until = within is not None and time.monotonic() + within
         while True:
             reply = self.next()
@@ -119,7 +119,7 @@ class Client:
             self.unread += more
 
     def ask(self, frame):
-        """The reply to a frame that has nothing to wait for."""
+        """Returns the reply to a frame that needn't wait."""
         self.write(frame)
         reply = self.reply(30)
         if reply is None:
@@ -127,7 +127,7 @@ class Client:
         return reply
 
     def call(self, number, *arguments):
-        """What a call gives that has to be done."""
+        """Returns the results of a call that must be done."""
         frame = words(number, *arguments)
         reply = self.ask(frame)
         if reply[CODE]:
@@ -138,7 +138,7 @@ class Client:
         return self.call(ALLOCATE, right)[0]
 
     def new_ports(self, count):
-        """Names of so many new ports."""
+        """Returns the names of new ports."""
         names = []
         while len(names) < count:
             some = min(500, count - len(names))
@@ -147,7 +147,7 @@ class Client:
         return names
 
     def send(self, name, number, *body, **words_of):
-        """Sends a message that has room."""
+        """Sends a message for which there is room."""
         reply = self.ask(sending(name, number, *body, **words_of))
         if reply[CODE]:
             raise Difference(f"message {number} to {name:#x} is answered with {reply[CODE]:#x}")
@@ -161,18 +161,18 @@ class Client:
                 raise Difference(f"message {number} to {name:#x}, with room for it, is answered with {reply}")
 
     def take(self, name):
-        """The number of the next message, or None where there is none."""
+        """Returns the number of the next message, or None if there is none."""
         reply = self.ask(receiving(name, timeout=0))
         return None if reply[CODE] else reply[ID]
 
     def take_all(self, name, most):
-        """The numbers of the messages, which are no more than so many."""
+        """Returns the numbers of the messages, of which there are at most this many."""
         self.write(*[receiving(name, timeout=0)] * most)
         replies = [self.reply(30) for _ in range(most)]
         return [it[ID] for it in replies if it and it[CODE] == 0]
 
     def port(self, limit=MOST_QUEUED):
-        """A new port, with a send right."""
+        """Returns a new port with a send right."""
         name = self.name(RECEIVE)
         self.call(INSERT_RIGHT, name, name, MAKE_SEND)
         self.call(SET_QLIMIT, name, limit)
@@ -185,7 +185,7 @@ class Client:
         return name
 
     def queued(self, name):
-        """How many messages a port has."""
+        """Returns the number of messages of a port."""
         return self.call(RECEIVE_STATUS, name)[4]
 
     def end_writing(self):
@@ -195,17 +195,17 @@ class Client:
         self.socket.close()
 
     def kill(self):
-        """The connection becomes that of another process, which is killed then."""
+        """Gives the connection to another process, and kills that process."""
         holder = subprocess.Popen(["sleep", "600"], stdin=self.socket)
         self.socket.close()
         holder.kill()
-        # Once it can be waited for, its files are closed.
+        # When it can be waited for, its files are closed.
         holder.wait()
 
     def go(self):
-        """Ends the connection as a close does, but that what was answered before can still be read."""
+        """Ends the connection as a close does, but earlier replies can still be read."""
         if self.gone_at is None:
-            # Until it is known when it was, it may be at any moment.
+            # Until the time is known, any moment is possible.
             self.gone_at = math.inf
             with contextlib.suppress(OSError):
                 self.socket.shutdown(socket.SHUT_RDWR)
@@ -213,7 +213,8 @@ class Client:
 
 
 def answered(clients, within):
-    """Which of these clients has an answer first: its place among them, and the reply. None where none has within so many seconds."""
+    """Returns the first of these clients with a reply, as an index, and the reply; or None if none comes within these
+    seconds."""
     poll = select.poll()
     for client in clients:
         poll.register(client, select.POLLIN)
@@ -225,7 +226,7 @@ def answered(clients, within):
 
 
 def expect(who, client, code, number=None):
-    """The reply of one whose wait ends now."""
+    """Returns the reply of a client whose wait ends now."""
     reply = client.reply()
     if reply is None:
         raise Difference(f"{who} waits on")
@@ -241,14 +242,15 @@ def expect_message(who, client, number):
 
 
 def expect_still(who, clients, within=STILL):
-    """Nobody is answered."""
+    """Checks that no client gets a reply."""
     found = answered(clients, within)
     if found:
         raise Difference(f"{who} is answered: {found[1]}")
 
 
 def expect_turn(who, clients, number=None):
-    """The first of these is answered, with a message of this number where one is told, and no other."""
+    """Checks that the first of these clients gets a reply, with a message of this number if one is given, and that no
+    other does."""
     found = answered(clients, PROMPT)
     if found is None:
         raise Difference(f"{who}: none of {len(clients)} is answered")
@@ -269,7 +271,7 @@ def close_all(clients):
 
 
 class Server:
-    """A server of a store on a socket."""
+    """The server of a store on a socket."""
 
     def __init__(self, store):
         self.store, self.path = store, store.folder + ".socket"
@@ -289,7 +291,7 @@ class Server:
         return [self.client(space) for _ in range(count)]
 
     def kill(self):
-        """Kills the server, which hasn't ended by itself."""
+        """Kills the server, which must still be running."""
         self.program.kill()
         _, errors = self.program.communicate()
         if self.program.returncode != -signal.SIGKILL:

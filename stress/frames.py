@@ -1,4 +1,4 @@
-"""Frames at random: most are calls that can be done in the state that the machine is in, and some are none."""
+"""Random frames: most are calls that can be done in the current state of the machine, and some are invalid."""
 
 import struct
 
@@ -31,14 +31,15 @@ from machine import (
     SEND_TIMEOUT,
 )
 
-# How often each call is made.
+# Weights of the calls.
 OFTEN = {0: 2, 1: 2, 2: 2, 3: 3, 4: 3, 5: 7, 6: 2, 7: 5, 8: 2, 9: 5, 10: 2, 11: 1, 12: 1, 13: 4, 14: 2, 15: 4}
 OFTEN |= {16: 9, 17: 9, 18: 7, MACH_MSG: 60, 20: 1, 21: 0.3, NUMBERED: 12, CONFINE: 1, 99: 0.3}
 OF_SPACES = {ATTACH, 20, 21}
-# A connection that is confined sees no other space any more, so of those that may go to others only this part ever is.
+# The fraction of connections with access to other spaces that are ever confined. A confined connection no longer sees
+# other spaces.
 CONFINED_PART = 0.15
 
-# How many names and spaces there are before more is destroyed than made.
+# Numbers of names and of spaces from which on more are destroyed than made.
 MANY_NAMES, MANY_SPACES = 40, 4
 
 LONG_IN_LINE, IN_LINE, COMPLEX = 0x30000000, 0x10000000, 0x80000000
@@ -49,8 +50,8 @@ def words(*values):
 
 
 class Frames:
-    """Frames of one connection. `is_alone`: it may go to other spaces, and nothing waits for anybody else. One that may not
-    tries to as soon as it is confined, since nothing comes of it then."""
+    """Frames of one connection. `is_alone`: the connection may use other spaces, and no call waits for another
+    connection. A connection that may not use them only tries to once it is confined, when that has no effect."""
 
     def __init__(self, random, connection, is_alone=True):
         self.random = random
@@ -74,7 +75,8 @@ class Frames:
         return words(number) + arguments + bytes(4 * (self.random.random() < 0.003))
 
     def numbered(self):
-        """A request, most often the next one or the last one again, and a call, most often one that may be numbered."""
+        """Returns a request, usually the next one or the last one again, and a call, usually one that may be numbered.
+        """
         chance = self.random.random()
         last, _ = self.machine.kept.get(self.connection.here(), (0, b""))
         others = [*[0, last - 1, last + 2] * 20, LAST_WORD]
@@ -111,7 +113,7 @@ class Frames:
         return self.machine.spaces.get(self.connection.here(), {})
 
     def name(self, is_wanted=None):
-        """A name, most often one that is as wanted."""
+        """Returns a name, usually one with these properties."""
         chance = self.random.random()
         wanted = [it for it, held in self.held().items() if is_wanted and is_wanted(held)]
         if wanted and chance < 0.85:
@@ -127,7 +129,7 @@ class Frames:
         return self.name(lambda held: held.holds(right))
 
     def right_for(self, disposition):
-        """A name that can be copied in so, or now and then a dead one."""
+        """Returns a name from which a right can be copied in by this disposition, or sometimes a dead name."""
         if self.random.random() < 0.05:
             return self.name(lambda held: held.kind == "dead")
         sends = {MOVE_SEND: SEND, COPY_SEND: SEND, MOVE_SEND_ONCE: SEND_ONCE}
@@ -196,7 +198,7 @@ class Frames:
         return asked[: self.random.randrange(16)] if is_cut else asked
 
     def source(self):
-        """A name to receive from, most often one of a port with a message, or of a set."""
+        """Returns a name to receive from, usually that of a port with a message, or of a set."""
 
         def has_message(held):
             return held.kind == "set" or held.holds(RECEIVE) and self.machine.ports[held.port].queue

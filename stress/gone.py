@@ -1,4 +1,4 @@
-"""Clients that go while they wait, and the messages that come then."""
+"""Clients that disconnect while they wait, and the messages that arrive then."""
 
 import itertools
 import time
@@ -8,7 +8,7 @@ from frames import words
 from machine import MOST_QUEUED
 from store import Difference, framed
 
-# How many messages are sent behind each client that goes: one may be there before.
+# Number of messages that are sent after each client that disconnects; one may have been there before.
 GROUP = MOST_QUEUED - 1
 
 
@@ -67,7 +67,8 @@ WAYS = (
 
 
 class Place:
-    """Where a client receives that goes: a port, or a set with that port. `sink` is for what it sends."""
+    """The place from which a client that disconnects receives: a port, or a set with that port. `sink` is the
+    destination of its sends."""
 
     def __init__(self, server, is_set):
         self.sender = server.client()
@@ -76,7 +77,7 @@ class Place:
 
 
 def messages_beside_the_gone(chance, server, is_set, ask, go, count):
-    """The numbers of the messages that weren't there for the one who received next."""
+    """Returns the numbers of the messages that the next receiver didn't get."""
     place, receiver, missing = Place(server, is_set), server.client(), []
     for first in range(1, count + 1, GROUP):
         numbers = range(first, min(count + 1, first + GROUP))
@@ -86,7 +87,7 @@ def messages_beside_the_gone(chance, server, is_set, ask, go, count):
         getattr(waiting, go)()
         time.sleep(0.001)
         place.sender.send_all(place.port, numbers)
-        # One of number 0 may have been there before.
+        # A message with the number 0 may have been there before.
         came = [it for it in receiver.take_all(place.source, MOST_QUEUED) if it]
         if came != sorted(set(came) & set(numbers)):
             raise Difference(f"of {list(numbers)} came {came}")
@@ -97,7 +98,7 @@ def messages_beside_the_gone(chance, server, is_set, ask, go, count):
 
 
 def half_closed(server):
-    """A client that only ends what it writes gets all that it asked for, and then the end."""
+    """Tests that a client that only shuts down its output gets all replies, and then the end."""
     sender = server.client()
     port = sender.port()
     for pause in (0, APART):

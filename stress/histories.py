@@ -1,9 +1,9 @@
-"""Clients at random, most of which wait, and what has to be so once all is quiet.
+"""Random clients, most of which wait, and the conditions that must hold once all is quiet.
 
-There are households and senders. A household is a space with lasting ports, others that come and go, and sets; its changer renames
-them, moves them into sets and out of them, sends their receive rights around, changes their limits and ends those that don't last,
-while its receivers wait for their messages. The senders are in space 1 and have a send right to each lasting port. Each
-message has a number of its own.
+There are households and senders. A household is a space with lasting ports, temporary ports, and sets. Its changer
+renames them, moves them into sets and out of them, sends their receive rights around, changes their limits and destroys
+the temporary ones, while its receivers wait for messages. The senders are in space 1 and have a send right to each
+lasting port. Each message has a unique number.
 """
 
 import math
@@ -51,13 +51,13 @@ from store import Difference
 HOUSEHOLDS, LASTING, PASSING, SETS = 4, 4, 2, 2
 RECEIVERS, SENDERS = 7, 16
 
-# How many clients go at once.
+# Number of clients that disconnect at once.
 GOING = 8
 
-# For how many seconds there are calls before all is left to become quiet, and for how many nothing is answered then.
+# Seconds of calls before the clients are stopped, and seconds during which nothing must be answered then.
 LIVELY, QUIET = 3, 0.7
 
-# A client that went takes no message that was written so many seconds later.
+# A disconnected client takes no message that was written this many seconds later.
 MARGIN = 0.001
 
 ENDED_RECEIPTS = (MACH_RCV_INVALID_NAME, MACH_RCV_IN_SET, MACH_RCV_PORT_CHANGED, MACH_RCV_PORT_DIED)
@@ -65,15 +65,16 @@ HOLDS_RECEIVE, HOLDS_SET = 1 << 17, 1 << 19
 
 
 class Book:
-    """What became of each message."""
+    """The outcome of each message."""
 
     def __init__(self):
         self.lock = threading.Lock()
         self.count, self.answers, self.differences = 0, 0, []
-        # When those of the senders were written; which were sent, and received. Those of a household may end with a port.
+        # The times at which the senders' messages were written; the messages that were sent, and received. Messages of
+        # a household may be lost with a port.
         self.written, self.sent, self.received, self.refused = {}, set(), set(), set()
-        # The connections of receipts that ended as a message may have been on its way to them, and when the server was killed in this
-        # round.
+        # The connections of receives that ended when a message may have been on its way to them, and the time at which
+        # the server was killed in this round.
         self.gone, self.killed_at = [], None
         self.may_go_on, self.is_over = threading.Event(), False
 
@@ -100,7 +101,8 @@ class Book:
             self.received.add(number)
 
     def lost(self):
-        """Messages that nobody had, save one for each receipt that ended with its connection, if it was written no later."""
+        """Returns the messages that nobody received, except one for each receive whose connection ended no earlier than
+        the message was written."""
         lost = sorted((self.written[it], it) for it in self.sent & set(self.written) - self.received)
         for moment in sorted(it.gone_at or self.killed_at for it in self.gone):
             if lost and lost[0][0] <= moment + MARGIN:
@@ -110,7 +112,7 @@ class Book:
 
 
 class Task(threading.Thread):
-    """A client, who calls at random, and comes back where its connection was ended."""
+    """A client that makes random calls, and reconnects after its connection was ended."""
 
     def __init__(self, chance, server, book, space):
         super().__init__(daemon=True)
@@ -151,14 +153,15 @@ class Task(threading.Thread):
 
 
 class Asked:
-    """A call that may wait: what it sends and where to, what it receives from, and whether it ends by itself."""
+    """A call that may wait: the message and its destination, the source of its receive, and true if it has a timeout.
+    """
 
     def __init__(self, frame, number=None, to=None, source=None, is_timed=False, is_small=False):
         self.frame, self.number, self.to, self.source = frame, number, to, source
         self.is_timed, self.is_small = is_timed, is_small
 
     def note(self, book, reply):
-        """What the answer says of messages. One that no such call has is a difference."""
+        """Notes the messages in a reply. A reply that no such call can have is a difference."""
         code = reply[CODE]
         if self.number is not None:
             if code in (MACH_SEND_INVALID_DEST, MACH_SEND_TIMED_OUT):
@@ -178,7 +181,7 @@ class Asked:
 
 
 class Household:
-    """A space, and what it has: the names of its lasting ports, of those that come and go, and of its sets."""
+    """A space, and its contents: the names of its lasting ports, of its temporary ports, and of its sets."""
 
     def __init__(self, server, first, door):
         self.space, self.door = first.call(SPACE_CREATE, door, MAKE_SEND)
@@ -236,11 +239,11 @@ class Sender(Task):
 
 
 class Changer(Task):
-    """It makes one change behind the other, and takes up what it finds where the server was killed amid one."""
+    """Makes changes one after another, and continues from the actual state if the server was killed during one."""
 
     def __init__(self, chance, server, book, household):
         super().__init__(chance, server, book, household.space)
-        # The names among which a change is under way.
+        # The names that are being changed.
         self.household, self.is_sure, self.amid = household, True, []
         self.fresh = 0x1000
 
@@ -256,7 +259,7 @@ class Changer(Task):
         time.sleep(self.chance.choice([0, 0.002, 0.02]))
 
     def find(self):
-        """The names as they are. What isn't known is what the change made that was under way."""
+        """Finds the current names. Unknown ones are results of the interrupted change."""
         household = self.household
         while self.client.ask(receiving(household.bag, timeout=0))[CODE] == 0:
             pass
@@ -271,7 +274,7 @@ class Changer(Task):
                 names.append(self.client.name(right))
 
     def some(self, *kinds):
-        """Names of a kind, among which one is changed."""
+        """Picks a name of one of these kinds for a change. Returns the list of that kind and an index."""
         self.amid = self.chance.choice(kinds)
         return self.amid, self.chance.randrange(len(self.amid))
 
@@ -295,26 +298,26 @@ class Changer(Task):
         self.client.call(SET_QLIMIT, names[place], self.chance.choice([0, 1, 1, 2, 3, 5]))
 
     def carry(self):
-        """A port's receive right is sent away, and received again."""
+        """Sends a port's receive right away, and receives it again."""
         names, place = self.ports()
         self.client.send(self.household.bag, 0, ports(MOVE_RECEIVE, names[place]), disposition=MAKE_SEND)
         time.sleep(self.chance.choice([0, 0.005]))
         names[place] = self.client.ask(receiving(self.household.bag))[-1]
 
     def extract(self):
-        """A port's receive right gets the least unused name."""
+        """Extracts a port's receive right to the least unused name."""
         names, place = self.ports()
         names[place] = self.client.call(EXTRACT_RIGHT, names[place], MOVE_RECEIVE)[0]
 
     def replace(self):
-        """A port that doesn't last, or a set, goes, and another comes."""
+        """Destroys a temporary port or a set, and makes another one."""
         names, place = self.some(self.household.passing, self.household.sets)
         self.client.call(DESTROY, names[place])
         names[place] = self.client.name(PORT_SET if names is self.household.sets else RECEIVE)
 
 
 class Listed:
-    """What `machls` prints of the store: what each name stands for, and how many messages a port has, and may have."""
+    """The listing of a store by `machls`: the entry of each name, and each port's number of messages and limit."""
 
     def __init__(self, store):
         self.names, self.queues, space = {}, {}, None
@@ -331,13 +334,13 @@ class Listed:
         return self.queues[self.names[space, name][1]][0]
 
     def has_room(self, space, name):
-        """Whether a send has room, or no right."""
+        """Returns true if a send has room, or its right is gone."""
         bits, serial = self.names.get((space, name), (0, 0))
         queued, most = self.queues.get(serial, (0, 1))
         return queued < most
 
     def has_message(self, looker, space, name):
-        """Whether a receipt has a message, or nothing to receive from."""
+        """Returns true if a receive has a message, or its source is gone."""
         bits, _ = self.names.get((space, name), (0, 0))
         if bits & HOLDS_RECEIVE:
             return looker.call(RECEIVE_STATUS, name)[0] != 0 or self.messages(space, name) > 0
@@ -347,7 +350,7 @@ class Listed:
 
 
 def passed_over(server, tasks):
-    """The calls that wait and could go on."""
+    """Returns the waiting calls that could proceed."""
     listed, found, lookers = Listed(server.store), set(), {}
     for task in tasks:
         asked = task.asked
@@ -355,7 +358,7 @@ def passed_over(server, tasks):
             continue
         looker = lookers.setdefault(task.space, None) or server.client(task.space)
         lookers[task.space] = looker
-        # Of a send with a receipt behind it is not seen which of the two waits.
+        # For a send followed by a receive it is unknown which of the two waits.
         may_send = asked.to is None or listed.has_room(task.space, asked.to)
         may_receive = asked.source is None or listed.has_message(looker, task.space, asked.source)
         if may_send and may_receive:
@@ -374,7 +377,7 @@ def become_quiet(book, seconds):
 
 
 def empty(server, book, households, tasks):
-    """Receives all messages, and so makes room for all sends."""
+    """Receives all messages, so that all sends have room."""
     lookers = [server.client(it.space) for it in households]
     for looker in lookers:
         for name, bits in names_of(looker):
@@ -398,20 +401,21 @@ def names_of(looker):
 
 
 def take_all(book, looker):
-    """How many messages there were in a space."""
+    """Receives all messages of a space, and returns their number."""
     count = 0
     for name, bits in names_of(looker):
         if bits & (HOLDS_RECEIVE | HOLDS_SET):
             for number in looker.take_all(name, MOST_QUEUED):
                 count += 1
-                # A receive right that was on its way comes with the number 0.
+                # A message that carried a receive right has the number 0.
                 if number:
                     book.has_received(number)
     return count
 
 
 def live_calmly(chance, server, book, tasks):
-    """Calls at random; now and then all is answered that can be, and then clients go. How many did."""
+    """Makes random calls; sometimes waits until all possible replies have come, and then disconnects clients. Returns
+    the number of these."""
     went, until = 0, time.monotonic() + LIVELY
     while time.monotonic() < until:
         book.may_go_on.set()
@@ -427,7 +431,7 @@ def live_calmly(chance, server, book, tasks):
 
 
 def hush(book, server):
-    """Lets no further call be made, and waits until what is on its way was answered."""
+    """Stops new calls, and waits for pending replies."""
     book.may_go_on.clear()
     looker = server.client()
     port = looker.name(RECEIVE)
@@ -435,7 +439,7 @@ def hush(book, server):
     while seen != book.answers:
         seen = book.answers
         time.sleep(0.05)
-        # What was made before this is stored with it.
+        # Earlier calls are stored with it.
         looker.call(SET_SEQNO, port, 1)
         time.sleep(0.1)
     looker.call(DESTROY, port)
@@ -443,7 +447,7 @@ def hush(book, server):
 
 
 def live_wildly(chance, server, book, tasks):
-    """Calls at random, and clients that go at any moment. How many did."""
+    """Makes random calls, and disconnects clients at any moment. Returns the number of these."""
     went, until = 0, time.monotonic() + LIVELY
     book.may_go_on.set()
     while time.monotonic() < until:
@@ -456,10 +460,10 @@ def live_wildly(chance, server, book, tasks):
 
 
 def live_through_a_kill(chance, server, book, tasks):
-    """Calls at random, amid which the server is killed."""
+    """Makes random calls, and kills the server meanwhile."""
     book.may_go_on.set()
     time.sleep(chance.uniform(0.3, 0.9) * LIVELY)
-    # Until it is known when it was, it may be at any moment.
+    # Until the time is known, any moment is possible.
     book.killed_at = math.inf
     server.kill()
     book.killed_at = time.monotonic()
@@ -468,7 +472,7 @@ def live_through_a_kill(chance, server, book, tasks):
 
 
 def expect_rest(server, book, tasks, households):
-    """All is quiet: nobody who waits was passed over, and no message was lost or came twice."""
+    """Checks that all is quiet: no waiting call can proceed, and no message was lost or delivered twice."""
     book.may_go_on.clear()
     become_quiet(book, QUIET)
     found = passed_over(server, tasks)

@@ -1,8 +1,8 @@
-"""The machine written down a second time, to be compared with the program.
+"""A second implementation of the machine, with which the program is compared.
 
-It shares no text with the definitions that the proofs stand on, nor with the server's code: rights are counted and
-ports are found by walking over everything, and a refused call is undone by a copy that was made before it. What it
-says is what docs/FORMATS.md and docs/DECISIONS.md say in words.
+It shares no text with the definitions of the proofs, nor with the server's code. It counts rights and finds ports by
+walking over everything, and undoes a refused call by a copy that was made before it. It follows the text of
+docs/FORMATS.md and docs/DECISIONS.md.
 """
 
 import copy
@@ -17,7 +17,7 @@ FIRST_NAME = 0x100
 # Rights, by their numbers in calls.
 SEND, RECEIVE, SEND_ONCE, PORT_SET, DEAD_NAME = range(5)
 
-# Dispositions, of which the first three are also the types of rights as they are received.
+# Dispositions. The first three are also the types of received rights.
 MOVE_RECEIVE, MOVE_SEND, MOVE_SEND_ONCE, COPY_SEND, MAKE_SEND, MAKE_SEND_ONCE = range(16, 22)
 RECEIVED_TYPE = {
     MOVE_RECEIVE: MOVE_RECEIVE,
@@ -51,18 +51,18 @@ ATTACH, MACH_MSG, NUMBERED, CONFINE = 0, 19, 22, 23
 MOST_NAMES, MOST_PORTS, MOST_SPACES, MOST_RIGHTS = 4096, 16384, 256, 256
 MOST_SENDS, MOST_DEAD, MOST_QUEUED, LONGEST = 65_534, 65_535, 64, 8192
 
-# How many words the arguments of each call have, mach_msg aside.
+# Number of words in the arguments of each call except mach_msg.
 ARGUMENTS = {0: 1, 1: 0, 2: 1, 3: 2, 4: 2, 5: 1, 6: 1, 7: 1, 8: 2, 9: 3, 10: 2, 11: 2, 12: 2}
 ARGUMENTS |= {13: 1, 14: 1, 15: 2, 16: 5, 17: 3, 18: 2, 20: 2, 21: 0, CONFINE: 0}
 WITHOUT_RECORD = {0, 1, 2, 8, 13, 14, CONFINE}
 
-# What number 22 takes: these calls, and of mach_msg a send and a receive that are one attempt.
+# The calls that number 22 accepts: these, and a send or receive of mach_msg that is one attempt.
 MAY_BE_NUMBERED = {3, 4, 5, 6, 7, 9, 10, 11, 12, 15, 16, 17, 18, 20}
 ONE_ATTEMPT = {SEND_MSG | SEND_TIMEOUT, RCV_MSG | RCV_TIMEOUT, RCV_MSG | RCV_TIMEOUT | RCV_LARGE}
 
 
 class Refused(Exception):
-    """A call's refusal: its code."""
+    """A refused call, with its code."""
 
     def __init__(self, code):
         super().__init__(code)
@@ -76,7 +76,8 @@ def refuse_if(test, code):
 
 @dataclass
 class Right:
-    """A right on its way: its received type (0 for no reply), and a port's serial, NULL's None, or "dead"."""
+    """A right in a message: its received type (0 for no reply right), and a port's serial, None for MACH_PORT_NULL, or
+    "dead"."""
 
     type: int
     port: object = None
@@ -84,7 +85,7 @@ class Right:
 
 @dataclass
 class Name:
-    """What a name stands for. `target` is the port of its dead-name request."""
+    """The entry of a name. `target` is the port of its dead-name request."""
 
     kind: str  # "port", "once", "set" or "dead"
     port: int = 0
@@ -137,7 +138,7 @@ class Port:
 
 
 def items_of(body):
-    """The items of a body: (place, bytes of the descriptor, type, elements, place of the data)."""
+    """Yields the items of a body: (offset, descriptor's length in bytes, type, elements, offset of the data)."""
     place = 0
     while place < len(body):
         refuse_if(len(body) - place < 4, MACH_SEND_MSG_TOO_SMALL)
@@ -167,13 +168,14 @@ class Machine:
         self.effects = deque()
         self.records = 0
         self.kept = {}
-        # How many spaces of a number were destroyed: by this a confined connection knows its own from a later one.
+        # The number of destroyed spaces by number, so that a confined connection can tell its own space from a later
+        # one.
         self.ended = {}
 
-    # What is counted and found.
+    # Counts and look-ups.
 
     def rights(self):
-        """All rights that there are: (type, port)."""
+        """Yields all rights: (type, port)."""
         for names in self.spaces.values():
             for name in names.values():
                 if name.kind == "port" and name.references:
@@ -192,12 +194,12 @@ class Machine:
         return sum(it == (type_, serial) for it in self.rights())
 
     def name_of(self, space, serial):
-        """The name of a port's send or receive right in a space."""
+        """Returns the name of a port's send or receive right in a space."""
         names = self.spaces[space]
         return next((it for it, name in names.items() if name.kind == "port" and name.port == serial), None)
 
     def carrier(self, serial):
-        """The port in whose queue a receive right is."""
+        """Returns the port whose queue contains a receive right."""
         wanted = Right(MOVE_RECEIVE, serial)
         return next((it for it, port in self.ports.items() if any(wanted in m.rights for m in port.queue)), None)
 
@@ -231,7 +233,7 @@ class Machine:
         return name
 
     def end_name(self, space, name):
-        """A name that stands for nothing more, with its port-deleted notice."""
+        """Removes a name without rights, with its port-deleted notice."""
         target = self.spaces[space].pop(name).target
         if target is not None:
             self.later(self.notify, target, PORT_DELETED, 0x1001200F, name)
@@ -242,10 +244,10 @@ class Machine:
         if held.references == 0 and not held.receive:
             self.end_name(space, name)
 
-    # Rights in and out.
+    # Copy in and copy out.
 
     def copy_in(self, space, name, disposition):
-        """The right that a name gives up or lends, or None where it can't, and then nothing changed."""
+        """Takes or copies a right from a name. Returns None if that is refused; then nothing changed."""
         held = self.spaces[space].get(name)
         if held is None:
             return None
@@ -271,7 +273,7 @@ class Machine:
         return Right(type_, held.port)
 
     def copy_in_live(self, space, name, disposition, code):
-        """The same, refused with this code where it can't and where the name is dead."""
+        """Does the same, but raises this code if that is refused or the name is dead."""
         right = self.copy_in(space, name, disposition)
         refuse_if(right is None or right.port == "dead", code)
         return right
@@ -363,7 +365,7 @@ class Machine:
     # Calls.
 
     def done_or_undone(self, step):
-        """What a step gives and its code; a refused one changes nothing."""
+        """Returns the result of a step and its code. A refused step changes nothing."""
         before = copy.deepcopy((self.spaces, self.ports, self.next_serial))
         try:
             result = step()
@@ -375,7 +377,7 @@ class Machine:
             return refusal.code, b""
 
     def call(self, space, number, arguments):
-        """The code and the results of a call, mach_msg aside."""
+        """Returns the code and the results of a call other than mach_msg."""
         if space not in self.spaces:
             return KERN_INVALID_TASK, b""
         code, result = self.done_or_undone(lambda: getattr(self, CALLS[number])(space, *arguments))
@@ -386,7 +388,7 @@ class Machine:
         refuse_if(wanted not in self.spaces, KERN_INVALID_TASK)
 
     def confine(self, _):
-        """It changes only the connection."""
+        """Confines the connection. The state doesn't change."""
 
     def names(self, space):
         rows = sorted(self.spaces[space].items())
@@ -580,7 +582,7 @@ class Machine:
     # Messages.
 
     def header_rights(self, space, remote, to, local, back):
-        """The destination and the reply right. One that consumes nothing is copied in before one that does."""
+        """Copies in the destination and the reply right. A right that consumes nothing comes before one that does."""
 
         def destination():
             return self.copy_in_live(space, remote, to, MACH_SEND_INVALID_DEST)
@@ -601,7 +603,7 @@ class Machine:
         return destination(), reply()
 
     def body_rights(self, space, body, items):
-        """The rights of a body's ports, which leave it their received types and empty places."""
+        """Copies in the rights of a body's ports. Their items get received types and zeros."""
         rights = []
         for place, length, type_, count, data in items:
             for at in range(data, data + 4 * count, 4):
@@ -642,7 +644,7 @@ class Machine:
             queue.append(Message(destination.type, reply, id_, len(message), bool(items), rights, bytes(body)))
 
     def receive(self, space, limit, is_large_kept, name):
-        """The code, the size, the member, and the message."""
+        """Returns the code, the size, the member, and the message."""
         held = self.spaces[space].get(name)
         if held is None or not (held.holds(RECEIVE) or held.kind == "set"):
             return MACH_RCV_INVALID_NAME, 0, 0, b""
@@ -691,7 +693,7 @@ class Machine:
         return struct.pack("<6I", bits, message.size, reply, member, sequence, message.id) + bytes(body)
 
     def mach_msg(self, space, arguments):
-        """The code, the size, the member, and the message."""
+        """Returns the code, the size, the member, and the message."""
         if len(arguments) < 16:
             return KERN_INVALID_ARGUMENT, 0, 0, b""
         option, limit, name, _ = struct.unpack_from("<4I", arguments)
@@ -710,7 +712,7 @@ class Machine:
 
 
     def numbered(self, space, arguments):
-        """The code and the results of a call that a task numbers. A space keeps the last one that has a record."""
+        """Returns the code and the results of a numbered call. A space keeps the last recorded one."""
         if space not in self.spaces:
             return KERN_INVALID_TASK, b""
         if not may_be_numbered(arguments[4:]):
@@ -766,8 +768,8 @@ CALLS = {
 
 
 class Connection:
-    """A connection's frames, each answered in the space that it attached to last, or for good in the one that it is
-    confined to."""
+    """A connection. Each frame is a call in the space to which it was attached last, or in the space to which it is
+    confined."""
 
     def __init__(self, machine):
         self.machine = machine
@@ -775,12 +777,13 @@ class Connection:
         self.confined = None  # how many spaces of this number had been destroyed then
 
     def here(self):
-        """The space that it acts in. One that is no space where a confined connection's own is gone, whoever has the number."""
+        """Returns the space of its calls, or no space if a confined connection's own space is gone, even if another
+        space has its number."""
         is_gone = self.confined is not None and self.confined != self.machine.ended.get(self.space, 0)
         return NULL if is_gone else self.space
 
     def answer(self, frame):
-        """The reply to a frame, both without their lengths."""
+        """Returns the reply to a frame, both without their lengths."""
         (number,) = struct.unpack_from("<I", frame)
         arguments, space = frame[4:], self.here()
         if number == MACH_MSG:
@@ -803,7 +806,7 @@ class Connection:
 
 
 def listing(machine):
-    """What `machls` prints behind its first line."""
+    """Returns the listing of `machls` after its first line."""
     lines, holders = [], {}
     for space, names in sorted(machine.spaces.items()):
         lines.append(f"space {space}")

@@ -1,4 +1,4 @@
-"""Clients that number their calls, beside a server that is killed and started again: each call is made once."""
+"""Clients with numbered calls, and a server that is killed and restarted. Each call is made once."""
 
 import random
 import socket
@@ -14,7 +14,7 @@ CLIENTS, KILLS = 6, 8
 
 
 class Client(threading.Thread):
-    """Numbered calls of one client in a space of its own. What was cut off it asks for again, by the same number."""
+    """Numbered calls of one client in its own space. A call that was interrupted is repeated with the same number."""
 
     def __init__(self, chance, path, space, ends):
         super().__init__()
@@ -50,7 +50,7 @@ class Client(threading.Thread):
                 self.repeated += 1
 
     def numbered(self):
-        """The frame of the next request, for a call that may be numbered."""
+        """Returns the frame of the next request, for a call that may be numbered."""
         last, _ = self.machine.kept.get(self.space, (0, b""))
         while True:
             frame = self.source.next()
@@ -58,7 +58,7 @@ class Client(threading.Thread):
                 return words(22, last + 1) + frame
 
     def connected(self):
-        """A connection that is attached to the client's space, also to a server that isn't there yet."""
+        """Returns a connection that is attached to the client's space. Waits for a server that isn't there yet."""
         while self.server is None:
             server = socket.socket(socket.AF_UNIX)
             try:
@@ -71,13 +71,13 @@ class Client(threading.Thread):
         return self.server
 
     def questions(self):
-        """Frames that ask for all that the client's space holds."""
+        """Returns frames that read the whole contents of the client's space."""
         held = self.machine.spaces[self.space].items()
         return [words(0, self.space), words(1), *(words(13, name) for name, right in held if right.holds(RECEIVE))]
 
 
 def spaces_for(path, count):
-    """So many spaces without names."""
+    """Creates spaces without names."""
     with socket.socket(socket.AF_UNIX) as server:
         server.connect(path)
         made = ask(server, words(5, 1), *[words(20, 0x100, 20)] * count)

@@ -1,4 +1,4 @@
-"""Stores that servers of older versions wrote (stores/), and the checks of one that a current server opens."""
+"""Stores of older versions (stores/), and checks after a current server has opened them."""
 
 import hashlib
 import pathlib
@@ -11,7 +11,8 @@ STORES = pathlib.Path(__file__).resolve().parent / "stores" / "v1"
 
 
 def was_printed(known, listing):
-    """Whether this was printed of a store when it was written. Of a long listing there is only the hash."""
+    """Returns true if this is the listing of the store from the time when it was written. Of a long listing only the
+    hash is kept."""
     text, digest = known.with_name(known.name + ".listing"), known.with_name(known.name + ".listing.sha256")
     if text.exists():
         return listing == text.read_text()
@@ -19,13 +20,13 @@ def was_printed(known, listing):
 
 
 def counts_of(listing):
-    """The epoch and the number of records that a listing begins with."""
+    """Returns the epoch and the number of records in the first line of a listing."""
     _, epoch, _, records = listing.split("\n", 1)[0].split()
     return int(epoch), int(records)
 
 
 def state_in(listing):
-    """A listing without its first line, which has the epoch and the number of records."""
+    """Returns a listing without its first line, which has the epoch and the number of records."""
     return listing.split("\n", 1)[1]
 
 
@@ -35,7 +36,8 @@ def same_state(known, before, after):
 
 
 def go_on_upgraded(store, known, before):
-    """A store that was opened holds the same state in version 2, in a later epoch and without a record; then it is used."""
+    """Checks that an opened store has the same state in version 2, in a later epoch and without records; then uses it.
+    """
     after = store.listing()
     same_state(known, before, after)
     (first, _), (last, records) = counts_of(before), counts_of(after)

@@ -1,5 +1,7 @@
-/* Refuses the allocation whose number REFUSE_AT tells, counted from 1, in a program that it is loaded into, and makes the
-   file REFUSE_TOLD then; and where REFUSE_LOCK is set each lock, as a file system does that has none. */
+/*
+ * Makes one allocation of the program that loads it fail: the one with the number REFUSE_AT, counted from 1. It then
+ * creates the file REFUSE_TOLD. If REFUSE_LOCK is set, all locks fail, as on a file system without locks.
+ */
 #define _GNU_SOURCE
 #include <dlfcn.h>
 #include <errno.h>

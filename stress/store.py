@@ -1,4 +1,4 @@
-"""The proved programs, run on a store in a folder of its own."""
+"""The proved programs, run on a store in its own folder."""
 
 import pathlib
 import shutil
@@ -19,7 +19,7 @@ def framed(*contents):
 
 
 def replies_in(output):
-    """The whole replies of an output."""
+    """Returns the whole replies in an output."""
     replies, place = [], 0
     while place + 4 <= len(output):
         (length,) = struct.unpack_from("<I", output, place)
@@ -56,7 +56,7 @@ def compare(frames, wanted, replies):
 
 
 def kill(server):
-    """Kills a server, which hasn't ended by itself."""
+    """Kills a server, which must still be running."""
     server.kill()
     status = server.wait()
     if status != -signal.SIGKILL:
@@ -64,7 +64,7 @@ def kill(server):
 
 
 def on_socket(store):
-    """A server on a socket that is ready, and the socket's path."""
+    """Returns a server on a socket that is ready, and the socket's path."""
     path = store.folder + ".socket"
     pathlib.Path(path).unlink(missing_ok=True)
     pipes = {"stdout": subprocess.PIPE, "stderr": subprocess.PIPE}
@@ -82,7 +82,7 @@ class Store:
         self.folder = folder or tempfile.mkdtemp(prefix="wannikol-")
 
     def serve(self, contents):
-        """The replies of a lone server to these frames."""
+        """Returns the replies of a server on standard input to these frames."""
         ran = subprocess.run([self.programs / "machipcd", self.folder], input=framed(*contents), capture_output=True)
         replies = replies_in(ran.stdout)
         if ran.returncode or len(replies) != len(contents):
@@ -90,7 +90,7 @@ class Store:
         return replies
 
     def listing(self):
-        """What `machls` prints of the store, which may be in use; None where it is busy."""
+        """Returns the listing of the store by `machls`, or None if it is busy. The store may be in use."""
         ran = subprocess.run([self.programs / "machls", self.folder], capture_output=True, text=True)
         if (ran.returncode, ran.stdout, ran.stderr) == (1, "", "machls: store busy\n"):
             return None
@@ -99,12 +99,12 @@ class Store:
         return ran.stdout
 
     def listed(self):
-        """How many records the store holds, and its lines."""
+        """Returns the number of records in the store, and its lines."""
         first, lines = self.listing().split("\n", 1)
         return int(first.split()[3]), lines
 
     def copied(self):
-        """A copy of the store, which may be in use; None where it is busy."""
+        """Returns a copy of the store, or None if it is busy. The store may be in use."""
         folder = self.folder + ".copy"
         words_of = [self.programs / "machcp", self.folder, folder]
         ran = subprocess.run(words_of, capture_output=True, text=True)
@@ -117,7 +117,7 @@ class Store:
         return Store(self.programs, folder)
 
     def copied_listing(self):
-        """What `machls` prints of a copy of the store; None where the store is busy."""
+        """Returns the listing of a copy of the store by `machls`, or None if the store is busy."""
         copied = self.copied()
         listing = copied and copied.listing()
         if copied:
@@ -130,7 +130,7 @@ class Store:
             raise Difference(f"{records} records\n{lines}wanted {machine.records} records\n{listing(machine)}")
 
     def content(self):
-        """The bytes of its files."""
+        """Returns the bytes of its files."""
         return {it.name: it.read_bytes() for it in pathlib.Path(self.folder).iterdir()}
 
     def remove(self):

@@ -1,4 +1,4 @@
-"""Who is answered where several wait in one place."""
+"""The order of replies when several calls wait in one place."""
 
 import select
 import time
@@ -41,7 +41,7 @@ from machine import (
 )
 from store import Difference
 
-# How many clients wait in one place, and how often a turn is passed on at each place.
+# Number of clients that wait in one place, and number of times that a turn is passed on at each place.
 CLIENTS, TRIES = 8, 25
 
 
@@ -58,7 +58,8 @@ def order(chance, server, asked):
 
 
 def in_time(part, *words_of):
-    """Tries again with more time between the calls, which a busy server may take in another order than they were written in."""
+    """Tries again with more time between the calls, because a busy server may process them in another order than they
+    were written."""
     for apart in (APART, 4 * APART, 20 * APART):
         try:
             return part(apart, *words_of)
@@ -68,7 +69,7 @@ def in_time(part, *words_of):
 
 
 def source_of(client, is_set):
-    """What is received from, and the ports to send to."""
+    """Returns the source of receives, and the ports to send to."""
     if not is_set:
         port = client.port()
         return "receipts at a port", port, [port]
@@ -81,7 +82,7 @@ def receipts_in_order(apart, chance, server, is_set):
     who, source, members = source_of(sender, is_set)
     waiting, number = [], 0
     for _ in range(3):
-        # The first half of those who are there is answered, and others come behind them.
+        # The first half of the clients get replies, and others come after them.
         for _ in range(CLIENTS):
             waiting.append(server.client())
             waiting[-1].write(receiving(source, timeout=chance.choice([None, TEN_MINUTES])))
@@ -90,7 +91,7 @@ def receipts_in_order(apart, chance, server, is_set):
             number += 1
             sender.send(chance.choice(members), number)
             expect_turn(who, waiting, number).close()
-    # Those that went have no turn.
+    # Disconnected clients have no turn.
     waiting.pop(0).close()
     waiting.pop(1).close()
     time.sleep(0.001)
@@ -101,7 +102,7 @@ def receipts_in_order(apart, chance, server, is_set):
 
 
 def receipts_at_once(server, is_set):
-    """Each of several messages that come at once ends one wait."""
+    """Tests that each of several messages that arrive at once ends one wait."""
     sender = server.client()
     who, source, members = source_of(sender, is_set)
     for round_ in range(TRIES):
@@ -121,7 +122,8 @@ def receipts_at_once(server, is_set):
 
 
 def receipts_that_end(chance, server, is_set):
-    """A receipt whose time is over, or whose connection is closed, just as a message comes: the next one has that message."""
+    """Tests a receive whose timeout expires, or whose connection is closed, just as a message arrives: the next receive
+    gets that message."""
     sender, looker = server.clients_of(2)
     for round_ in range(2 * TRIES):
         is_closed = round_ % 2
@@ -152,7 +154,8 @@ def receipts_that_end(chance, server, is_set):
 
 
 def not_for_the_next(looker, member, second):
-    """Whether a message went to one who was closed just then: the port has none, and the next one is answered nothing."""
+    """Returns true if a message went to a connection that was closed just then: the port has no message, and the next
+    receive gets none."""
     until = time.monotonic() + PROMPT
     while time.monotonic() < until:
         is_taken = looker.queued(member) == 0
@@ -168,7 +171,7 @@ def has_answer(client, within):
 
 
 def receipts_that_leave(apart, server, is_set):
-    """One for whom the message is too large leaves it to the next, or destroys it."""
+    """Tests that a receive for which the message is too large leaves it to the next one, or destroys it."""
     sender = server.client()
     who, source, (member, *_) = source_of(sender, is_set)
     for round_ in range(TRIES // 5):
@@ -195,7 +198,7 @@ def receipts_that_leave(apart, server, is_set):
 
 
 def receipts_without_names(server, is_set):
-    """In a space that is full each is told so, one behind the other, and has the message once there is a name."""
+    """Tests that in a full space each receive is refused in turn, and gets the message once a name is free."""
     scene = Scene(server)
     who, source, (member, *_) = source_of(scene.owner, is_set)
     space, door = scene.owner.call(SPACE_CREATE, member, MAKE_SEND)
@@ -244,7 +247,8 @@ def asked_client(client, frame):
 
 
 def sends_that_end(chance, server):
-    """A send whose time is over, or whose connection is closed, just as there is room: the next one has that room."""
+    """Tests a send whose timeout expires, or whose connection is closed, just as there is room: the next send gets that
+    room."""
     owner, looker = server.clients_of(2)
     for round_ in range(2 * TRIES):
         is_closed = round_ % 2
@@ -276,7 +280,7 @@ def sends_that_end(chance, server):
 
 
 def next_of_full(looker, owner, port, who, waiting):
-    """The message that comes to a queue with room, at which a send waits."""
+    """Returns the next message of a queue with room, at which a send waits."""
     until = time.monotonic() + PROMPT
     while looker.queued(port) == 0:
         if time.monotonic() > until:

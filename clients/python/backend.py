@@ -1,8 +1,8 @@
 #!/usr/bin/env python3
-"""Builds the wheel of machipc with the standard library only, so that no package index is asked (PEP 517, PEP 427).
+"""Builds the wheel of machipc with the standard library only, without a package index (PEP 517, PEP 427).
 
     pip install clients/python
-    clients/python/backend.py FOLDER          leaves machipc-VERSION-py3-none-any.whl in FOLDER, for where pip is missing
+    clients/python/backend.py FOLDER          writes machipc-VERSION-py3-none-any.whl to FOLDER, if there is no pip
 """
 
 import base64
@@ -20,14 +20,14 @@ PROJECT = (HERE / "pyproject.toml").read_text()
 
 
 def field(name):
-    """The text of a field of the project."""
+    """Returns the text of a field of the project."""
     return re.search(rf'^{name} = "(.*)"$', PROJECT, re.MULTILINE)[1]
 
 
 NAME, VERSION = field("name"), field("version")
 WHEEL = f"{NAME}-{VERSION}-py3-none-any.whl"
 INFO = f"{NAME}-{VERSION}.dist-info"
-# The least time that an archive can say, so that the same sources give the same bytes.
+# The earliest time that an archive can record, so that the same sources give the same bytes.
 TIME = (1980, 1, 1, 0, 0, 0)
 
 
@@ -45,7 +45,7 @@ def modules():
 
 
 def contents():
-    """The files of the wheel, by their names in it. The record of them comes last."""
+    """Returns the files of the wheel by their names in it. The last one is the record of the others."""
     made = {f"{NAME}/{it.name}": it.read_bytes() for it in modules()}
     made[f"{INFO}/METADATA"] = metadata().encode()
     made[f"{INFO}/WHEEL"] = b"Wheel-Version: 1.0\nGenerator: machipc\nRoot-Is-Purelib: true\nTag: py3-none-any\n"

@@ -249,7 +249,7 @@ class Servers(OfTask):
         super().tearDown()
 
     def ask(self, id_, *items, disposition=MAKE_SEND_ONCE):
-        """The answer to a request, which the server handles in this thread."""
+        """Returns the answer to a request, which the server handles in this thread."""
         request = Message.of(self.port, MAKE_SEND, *items, id=id_, local=self.reply_port, local_disposition=disposition)
         self.client.send(request)
         self.server.handle(self.task.receive(self.port, 1))
@@ -289,7 +289,7 @@ class Servers(OfTask):
         self.assertEqual(self.client.receive(self.reply_port, 1).body, b"late")
 
     def test_stop(self):
-        """A client that takes no replies and one that asks too much hold nobody up."""
+        """A client that takes no replies and one whose request is too large don't block the server."""
 
         @self.server.message(1)
         def answer(request):
@@ -306,10 +306,10 @@ class Servers(OfTask):
 
 
 class Cut(OfTask):
-    """A server that ends connections, or answers what is no reply."""
+    """A server that closes connections, or sends invalid replies."""
 
     def answered(self, reply):
-        """A server that takes one connection and gives this reply to its first frame."""
+        """Starts a server that takes one connection and gives this reply to its first frame."""
         folder = tempfile.TemporaryDirectory(dir="/tmp")
         self.addCleanup(folder.cleanup)
         path = f"{folder.name}/socket"

@@ -1,7 +1,7 @@
 #!/usr/bin/env python3
 """Tests of AsyncTask, against the server whose socket is in MACHIPC_SOCKET.
 
-MACHIPC_CANCELLATIONS is how often receives are cancelled, 1,000 if it isn't there.
+MACHIPC_CANCELLATIONS is the number of receives to cancel, 1,000 by default.
 """
 
 import asyncio
@@ -75,7 +75,7 @@ class Calls(OfTask):
             await self.task.receive(self.port, 0.01)
 
     async def test_attach(self):
-        """What waited in one space doesn't wait in the next."""
+        """A receive that waits in one space doesn't wait in the next."""
         space = self.task.space
         with self.assertRaises(MACH_RCV_TIMED_OUT):
             await self.task.receive(self.port, 0.01)

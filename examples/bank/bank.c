@@ -1,10 +1,10 @@
 /*
  * bank SECONDS MACHRUN TELLER
  *
- * Opens accounts with money, each in a space of its own, and runs the program TELLER for each of them, confined to that space
- * by MACHRUN. For so many seconds tellers are killed at random and started again; the server may be killed too. Then it
- * counts the money: no purse may be lost, and none be there twice. The status is 1 where one is. The bank itself goes to its
- * accounts' spaces, so it isn't confined.
+ * Opens accounts with money, each in a space of its own, and runs the program TELLER for each of them, confined to that
+ * space by MACHRUN. For the given time tellers are killed at random and started again; the server may be killed too.
+ * Then the bank counts the money: no purse may be lost or exist twice. The status is 1 if one is or does. The bank
+ * itself visits the spaces of its accounts, so it isn't confined.
  */
 
 #include "../begin.h"
@@ -24,7 +24,7 @@ struct account {
     pid_t teller;
 };
 
-/* What all accounts have. Each has one purse of each worth at first, from one unit to PURSES. */
+/* The totals of all accounts. Each account starts with one purse of each worth, from one unit to PURSES. */
 struct count {
     unsigned units;
     unsigned purses[PURSES + 1]; /* by their worth */
@@ -33,7 +33,7 @@ struct count {
 
 static const char *machrun, *program;
 
-/* Goes on with a call that has to be done. */
+/* Ends the program if a call failed. */
 static void must(kern_return_t code, const char *what) {
     if (code != KERN_SUCCESS) {
         fprintf(stderr, "bank: %s: %s\n", what, mach_error_string(code));
@@ -41,7 +41,7 @@ static void must(kern_return_t code, const char *what) {
     }
 }
 
-/* Sends a right to an account; its teller's space gets it when it is collected. */
+/* Sends a right to an account. It enters the teller's space when it is collected. */
 static void give_right(mach_port_t account, mach_port_t right, mach_msg_type_name_t disposition) {
     struct {
         mach_msg_header_t head;
@@ -54,7 +54,8 @@ static void give_right(mach_port_t account, mach_port_t right, mach_msg_type_nam
     must(mach_msg(&message.head, MACH_SEND_MSG, sizeof message, 0, MACH_PORT_NULL, 0, MACH_PORT_NULL), "a right is given");
 }
 
-/* Opens the accounts: ports, to which the others get send rights, and whose receive rights go into spaces of their own. */
+/* Opens the accounts. Each is a port whose receive right goes into a space of its own; the other accounts get send
+   rights to it. */
 static void open_accounts(struct account *accounts) {
     mach_port_t ports[ACCOUNTS];
     for (int i = 0; i < ACCOUNTS; i++) {
@@ -93,7 +94,7 @@ static void start_teller(struct account *account) {
     account->task.start++;
 }
 
-/* Kills tellers at random and starts them again. Gives how many were killed. */
+/* Kills tellers at random and starts them again. Returns the number of kills. */
 static unsigned run_tellers(struct account *accounts, unsigned seconds) {
     time_t end = time(NULL) + seconds;
     unsigned killed = 0;
@@ -115,7 +116,8 @@ static unsigned run_tellers(struct account *accounts, unsigned seconds) {
     return killed;
 }
 
-/* Collects what is in an account's queue yet, and counts what its space has and how many payments came. */
+/* Collects what is left in an account's queue, and adds the purses of its space and the payments that it got to the
+   totals. */
 static void count_account(const struct account *account, struct count *count) {
     mach_port_t port = account->task.bootstrap;
     struct holdings holdings;
@@ -137,7 +139,7 @@ static void count_account(const struct account *account, struct count *count) {
     count->payments += status.mps_seqno - FIRST_RIGHTS;
 }
 
-/* Prints what was done. Whether no purse was lost or made twice. */
+/* Prints the totals. Returns true if no purse was lost or exists twice. */
 static bool tell(const struct count *count, unsigned killed) {
     unsigned lost = 0, doubled = count->purses[0];
     for (unsigned units = 1; units <= PURSES; units++) {

@@ -25,7 +25,7 @@ kern_return_t purse_make(unsigned units, mach_port_t *purse) {
 }
 
 kern_return_t purse_units(mach_port_t purse, unsigned *units) {
-    /* A header is too little room for the coin, so it stays, and only its size comes. */
+    /* There is only room for a header, so the coin stays in the queue, and the call returns its size. */
     mach_msg_header_t head = {0};
     mach_msg_option_t option = MACH_RCV_MSG | MACH_RCV_LARGE | MACH_RCV_TIMEOUT;
     kern_return_t code = mach_msg(&head, option, 0, sizeof head, purse, 0, MACH_PORT_NULL);

@@ -1,10 +1,11 @@
 /*
  * teller
  *
- * Works for one account, in the space that the environment names and that machrun confines it to: it pays what the account
- * has to others, a purse at a time, and collects what they pay. It may be killed at any moment and started again, since it
- * remembers nothing: what it has to know it reads from its space. Its calls aren't numbered: one whose connection was cut was
- * made or not, and either is right, since a payment is one call. It ends with status 0 at a SIGTERM.
+ * Works for one account, in the space that the environment names and that machrun confines it to: it pays the account's
+ * purses to others, one at a time, and collects what they pay. It may be killed at any moment and started again, since
+ * it has no state of its own: it reads from its space what it has to know. Its calls aren't numbered: a call whose
+ * connection was cut was made or not, and either is right, since a payment is one call. It ends with status 0 after a
+ * SIGTERM.
  */
 
 #include "../begin.h"
@@ -26,7 +27,7 @@ static size_t any_of(size_t count) {
     return (size_t) rand() % count;
 }
 
-/* Pays one purse and collects what is there. A call that was cut was done or not; the next round sees which. */
+/* Pays one purse and collects what is there. A call that was cut was made or not; the next round finds out. */
 static void work(mach_port_t own_account) {
     struct holdings holdings;
     if (holdings_read(own_account, &holdings) != KERN_SUCCESS) {

@@ -1,9 +1,9 @@
 /*
  * counter-client SECONDS
  *
- * Adds to the counter at its bootstrap port, 1 at a time, for so many seconds. It prints how many additions were made, what
- * the counter was at the last, how many calls were asked again after a cut, and the last code. The status is 1 where a call
- * failed.
+ * Adds 1 to the counter at its bootstrap port, again and again for the given time. It prints the number of additions,
+ * the counter's last value, the number of calls that were repeated after a cut, and the last code. The status is 1 if a
+ * call failed.
  */
 
 #include "counter.h"
@@ -30,7 +30,7 @@ int main(int count, char **words) {
             calls++;
         }
         if (code == KERN_SUCCESS && value <= last) {
-            code = KERN_FAILURE; /* it grew by this call at least */
+            code = KERN_FAILURE; /* each call makes it grow by at least 1 */
         }
     }
     if (code == KERN_SUCCESS) {

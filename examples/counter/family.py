@@ -3,8 +3,8 @@
 
     machrun --open SOCKET examples/counter/family.py SECONDS FOLDER
 
-FOLDER has the programs. This task starts others, so it isn't confined; the clients are. The status is 1 where the counter isn't what the clients' calls make: a call was lost then, or made
-twice.
+FOLDER contains the programs. This task starts others, so it isn't confined; the clients are. The status is 1 if the
+counter isn't the sum of the clients' calls, because a call was lost or made twice.
 """
 
 import os

@@ -1,8 +1,8 @@
 /*
  * counter
  *
- * Serves the interface of counter.defs at its space's first port. The counter's value is the make-send count of a port that
- * nobody has send rights to, so it is in the server's store and not in this program's memory.
+ * Serves the interface of counter.defs on its space's first port. The counter's value is the make-send count of a port
+ * to which nobody has send rights, so it is in the server's store and not in this program's memory.
  */
 
 #include "counter_s.h"

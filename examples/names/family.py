@@ -3,11 +3,11 @@
 
     machrun --open SOCKET examples/names/family.py SECONDS FOLDER
 
-FOLDER has the programs. This task starts others, so it isn't confined. The name service runs in this task's own space, since
-it receives at the port that all tasks under it know as their bootstrap port; services and clients run under a machrun of
-their own, which confines them. Meanwhile the name service and the services are killed at random and started again. It prints
-what the clients made of it. The status is 1 where a request got a wrong answer, or neither an answer nor a notice, or where
-no client got an answer.
+FOLDER contains the programs. This task starts others, so it isn't confined. The name service runs in this task's own
+space, since it receives on the port that is the bootstrap port of all tasks below. Services and clients run under
+machruns of their own, which confine them. Meanwhile the name service and the services are killed at random and started
+again. The program prints the totals of the clients. The status is 1 if a request got a wrong answer, or neither an
+answer nor a notice, or if no request was answered.
 """
 
 import os
@@ -21,7 +21,7 @@ SERVICES, CLIENTS_OF_EACH = ("adder", "other"), 2
 
 
 class Kept:
-    """A process that is started again whenever it ended, until it is stopped."""
+    """A process that is started again whenever it ends, until it is stopped."""
 
     def __init__(self, words):
         self.words = words

@@ -22,11 +22,11 @@ kern_return_t names_ask(mach_msg_header_t *message, mach_msg_size_t size, mach_m
     if (code == MACH_MSG_SUCCESS && message->msgh_id == wanted) {
         return KERN_SUCCESS;
     }
-    /* The notice of a send-once right that went says that nobody is going to answer. */
+    /* A send-once notice in place of a reply: nobody is going to answer any more. */
     if (code == MACH_SEND_INVALID_DEST || (code == MACH_MSG_SUCCESS && message->msgh_id == MACH_NOTIFY_SEND_ONCE)) {
         return MIG_SERVER_DIED;
     }
-    mig_dealloc_reply_port(reply_port); /* a reply that comes too late goes with the port */
+    mig_dealloc_reply_port(reply_port); /* a reply that arrives too late is destroyed with the port */
     return code == MACH_MSG_SUCCESS ? MIG_REPLY_MISMATCH : code;
 }
 

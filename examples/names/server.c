@@ -1,10 +1,10 @@
 /*
  * names
  *
- * The name service, in the space that the environment names; its port is the space's first one. It keeps the names in its
- * memory only. When it was killed and is started again it gives back all rights of the time before: the services get
- * no-senders notices of their tokens, and check in again. When a service goes, the name service gets a dead-name notice, and
- * forgets the name.
+ * The name service, in the space that the environment names; its port is the space's first one. It keeps the names in
+ * memory only. If it was killed, it gives up all rights of the time before when it is started again: the services get
+ * no-senders notices of their tokens, and check in again. If a service ends, the name service gets a dead-name notice
+ * and forgets the name.
  */
 
 #include "names.h"
@@ -19,8 +19,8 @@
 enum { MOST_NAMES = 100 };
 
 static struct entry {
-    char name[NAME_LENGTH]; /* empty: the place is free */
-    mach_port_t port;       /* a send right, as the token is */
+    char name[NAME_LENGTH]; /* empty for a free entry */
+    mach_port_t port;       /* a send right, as is the token */
     mach_port_t token;
 } entries[MOST_NAMES];
 
@@ -35,7 +35,7 @@ static struct entry *find(const char *name) {
     return NULL;
 }
 
-/* Asks for a notice of the port's death. Where it is dead already, the notice comes at once. */
+/* Requests a notice of the port's death. If the port is dead already, the notice arrives at once. */
 static void watch(mach_port_t port) {
     mach_port_t previous = MACH_PORT_NULL;
     mach_port_request_notification(mach_task_self(), port, MACH_NOTIFY_DEAD_NAME, 1, notices, MACH_MSG_TYPE_MAKE_SEND_ONCE,
@@ -45,7 +45,7 @@ static void watch(mach_port_t port) {
     }
 }
 
-/* A service that checks in again, as one whose earlier reply was lost, gets the same answer. */
+/* Checks a service in. One that repeats its request, because the reply was lost, gets the same answer. */
 static kern_return_t check_in(const struct names_request *request) {
     struct entry *entry = find(request->name);
     if (entry != NULL && entry->port == request->port && entry->token == request->token) {
@@ -80,7 +80,7 @@ static void look_up(const struct names_request *request, struct names_reply *rep
     }
 }
 
-/* The notice has added a reference to the dead name; with the entry's own all are given back. */
+/* Removes the entry of a dead port. Its name has a reference of the entry and one of the notice; both are given up. */
 static void forget(mach_port_t dead) {
     for (size_t i = 0; i < MOST_NAMES; i++) {
         if (entries[i].name[0] != '\0' && entries[i].port == dead) {
@@ -102,8 +102,8 @@ static bool is_check_in(const struct names_request *request) {
            request->port != request->token;
 }
 
-/* Answers a request. The reply begins as a failure that gives all rights of the request back. What comes to the port of
-   notices is the server's, since nobody else has a right to it. */
+/* Answers a request. The reply starts out as a failure, which gives up all rights of the request. A message to the port
+   for notices is from the server, since nobody else has a right to that port. */
 static boolean_t demux(mach_msg_header_t *head, mach_msg_header_t *reply_head) {
     const struct names_request *request = (const struct names_request *) head;
     struct names_reply *reply = (struct names_reply *) reply_head;

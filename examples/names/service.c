@@ -1,8 +1,9 @@
 /*
  * service NAME
  *
- * Adds numbers for whoever asks, under a name of the name service, which is its bootstrap port. A notice that its
- * token has no senders says that the name service has forgotten it, as after a new start; then it checks in again.
+ * Adds numbers for its clients, under a name of the name service, which is its bootstrap port. A no-senders notice of
+ * its token tells it that the name service has forgotten its name, for example after a restart; then it checks in
+ * again.
  */
 
 #include "names.h"
@@ -19,7 +20,7 @@ static void pause_for(long milliseconds) {
     nanosleep(&(struct timespec){.tv_nsec = milliseconds * 1000000}, NULL);
 }
 
-/* Asks for a notice at the port when the token's senders are gone, those that were made until now too. */
+/* Requests a no-senders notice of the token. It arrives at once if the send rights made so far are gone already. */
 static kern_return_t watch_token(void) {
     mach_port_t previous = MACH_PORT_NULL;
     mach_port_status_t status;
@@ -59,7 +60,7 @@ static boolean_t demux(mach_msg_header_t *head, mach_msg_header_t *reply_head) {
         reply->numbers[1] = KERN_SUCCESS;
         return TRUE;
     }
-    if (head->msgh_id == MACH_NOTIFY_NO_SENDERS) { /* one that a client made up does no harm */
+    if (head->msgh_id == MACH_NOTIFY_NO_SENDERS) { /* a forged one does no harm */
         check_in();
     }
     ((mig_reply_header_t *) reply_head)->RetCode = MIG_NO_REPLY;

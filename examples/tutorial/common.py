@@ -1,10 +1,10 @@
-"""What the programs of the tutorial share: the ids of requests, names for ports, and how to ask."""
+"""What the programs of the tutorial have in common: the ids of requests, names for ports, and requests to a service."""
 
 import time
 
 from machipc import *
 
-# Requests to the name service, and to files. A reply has the id of its request plus 100.
+# The ids of requests to the name service, and to files. A reply's id is its request's plus 100.
 CHECK_IN, LOOK_UP = 1001, 1002
 OPEN, READ, WRITE = 2001, 2002, 2003
 
@@ -12,11 +12,11 @@ PAUSE = 0.02
 
 
 class Unanswered(Exception):
-    """The request was given back without an answer: whoever had it ended."""
+    """The request was destroyed without an answer: the service that had it ended."""
 
 
 def name_for(text):
-    """A name of our choice, the same for the same text (FNV-1a)."""
+    """Returns a name for a text, always the same for the same text (FNV-1a)."""
     hashed = 0x811C9DC5
     for byte in text.encode():
         hashed = (hashed ^ byte) * 0x01000193 % (1 << 32)
@@ -24,7 +24,7 @@ def name_for(text):
 
 
 def begin(**options):
-    """The task that machrun made for this program. A server that is being started again is waited for."""
+    """Returns the task that machrun made for this program. It waits for a server that is being started again."""
     while True:
         try:
             return Task.adopt(once=True, **options)
@@ -33,14 +33,14 @@ def begin(**options):
 
 
 def sweep(task, keep):
-    """Gives back all names but these, so that nobody waits for an answer of the time before this start."""
+    """Destroys all names but these, so that nobody waits for an answer from before this start."""
     for name in task.names():
         if name not in keep:
             task.destroy(name)
 
 
 def ask(task, service, request, *items):
-    """The items of the answer. A refusal is the exception that the service raised."""
+    """Makes a request, and returns the items of the answer. A refusal raises the exception that the service raised."""
     with task.allocate() as port:
         question = Message.of(service, COPY_SEND, *items, id=request, local=port, local_disposition=MAKE_SEND_ONCE)
         answer = task.send_receive(question, port)
@@ -55,13 +55,13 @@ def ask(task, service, request, *items):
 
 
 def refusal_of(items):
-    """The code that a refusal has for its only item, or 0."""
+    """Returns the code of a refusal, which is its only item, or 0 if the items are no refusal."""
     is_code = len(items) == 1 and isinstance(items[0], Data) and items[0].type == INTEGER_32
     return int.from_bytes(items[0].bytes, "little", signed=True) if is_code else 0
 
 
 def text_of(item):
-    """The text of an item. Another item is refused."""
+    """Returns the text of an item. An item that isn't data is refused."""
     if not isinstance(item, Data):
         raise MIG_BAD_ARGUMENTS
     return item.bytes.decode(errors="replace")

@@ -1,8 +1,9 @@
 #!/usr/bin/env python3
-"""files.py FOLDER: a service of files. Who opens one gets a right to a port, by which it is read and written.
+"""files.py FOLDER: a service of files. To open a file is to get a right to a port that reads and writes it.
 
-The ports outlive this program: when it was killed and started again in its space, the rights that clients have lead to the same
-files. A file's port has a name that is made of the file's, so nothing has to be remembered but the folder.
+The ports outlive this program: if it is killed and started again in its space, the rights that clients have lead to the
+same files. The name of a file's port is computed from the file's name, so the folder is all that the service has to
+know.
 """
 
 import os
@@ -18,7 +19,7 @@ task = begin()
 
 
 def make(right, name):
-    """Makes a port or a set under this name, unless it is there."""
+    """Makes a port or a set with this name, unless it exists."""
     try:
         task.allocate(right, name)
     except KERN_NAME_EXISTS:
@@ -26,7 +27,7 @@ def make(right, name):
 
 
 def port_of(file):
-    """The port of a file, which belongs to the set from which this program receives."""
+    """Returns the port of a file. It is a member of the set from which this program receives."""
     port = name_for(file.name)
     make(RECEIVE, port)
     task.move_member(port, ALL)
@@ -34,7 +35,7 @@ def port_of(file):
 
 
 def file_at(port):
-    """The file whose port this is."""
+    """Returns the file that belongs to a port."""
     for file in FOLDER.iterdir():
         if name_for(file.name) == port:
             return file

@@ -1,8 +1,8 @@
 #!/usr/bin/env python3
-"""A name service: services check in by a name, and clients look them up.
+"""A name service: services check in under a name, and clients look them up.
 
-The space is its table: a service's send right has a name that is made of the service's. So a service that checked in is known
-still after the name service was killed and started again.
+The space is its table: the name of a service's send right is computed from the service's name. So a service that
+checked in is still known after the name service was killed and started again.
 """
 
 import os

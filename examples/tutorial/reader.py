@@ -1,5 +1,5 @@
 #!/usr/bin/env python3
-"""reader.py SECONDS: reads the file that the writer lets it find. What it reads never grows less."""
+"""reader.py SECONDS: reads the writer's file again and again. The number in it may never become smaller."""
 
 import sys
 import time

@@ -1,8 +1,9 @@
 #!/usr/bin/env python3
-"""machrun --open SOCKET supervisor.py SECONDS [PROGRAMS]: runs the name service, the service of files, a writer and a reader.
+"""machrun --open SOCKET supervisor.py SECONDS [PROGRAMS]: runs the name service, the service of files, a writer and a
+reader.
 
-Each is confined by a machrun of its own, and the services are killed now and then: machrun --keep starts them again, in the
-spaces that they had. PROGRAMS is a folder that has the same programs, built from Rust.
+Each is confined by a machrun of its own. The services are killed now and then: machrun --keep starts them again, in the
+spaces that they had. PROGRAMS is a folder with the same programs, built from Rust.
 """
 
 import contextlib
@@ -22,7 +23,7 @@ MACHRUN, SOCKET = os.environ.get("MACHRUN", "machrun"), os.environ["MACHIPC_SOCK
 
 
 def start(name, *words, options=()):
-    """Starts a program, confined. What it is told of its own process comes by `running`."""
+    """Starts a program, confined."""
     program = [f"{PROGRAMS[0]}/{name}"] if PROGRAMS else [sys.executable, f"{HERE}/{name}.py"]
     return subprocess.Popen([MACHRUN, *options, SOCKET, *program, *map(str, words)], stdout=subprocess.PIPE, text=True)
 
@@ -31,7 +32,7 @@ running, kills = {}, 0
 
 
 def listen(service):
-    """Notes the process of each start of a service, which it prints."""
+    """Records the process id that a service prints each time it starts."""
     for line in service.stdout:
         name, process = line.split()
         running[name] = int(process)
@@ -40,7 +41,7 @@ def listen(service):
 with tempfile.TemporaryDirectory() as room:
     folder = pathlib.Path(room, "files")
     folder.mkdir()
-    # The name service receives at this program's own port, which all tasks under it know. So it is in this space.
+    # The name service receives on this program's bootstrap port, which all tasks below know. So it runs in this space.
     services = [start("names", options=["--keep", "--adopt"]), start("files", folder, options=["--keep"])]
     for it in services:
         threading.Thread(target=listen, args=(it,)).start()

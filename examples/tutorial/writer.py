@@ -1,7 +1,8 @@
 #!/usr/bin/env python3
-"""writer.py SECONDS: writes numbers to a file, reads each back, and lets others find the file.
+"""writer.py SECONDS: writes numbers to a file, reads each one back, and lets others find the file.
 
-It checks the file's right in at the name service. So a reader gets this file, and no way to the service of files.
+It checks the file's right in at the name service. So a reader gets a right to this file, and none to the service of
+files.
 """
 
 import sys
@@ -15,7 +16,8 @@ written = again = wrong = 0
 
 
 def ask_again(service, request, *items):
-    """Asks until there is an answer. The requests here may be made twice: to write the same text again changes nothing."""
+    """Repeats a request until it is answered. The requests here may be made twice: writing the same text again changes
+    nothing."""
     global again
     while True:
         try:

@@ -1,4 +1,4 @@
-/* All of the interface with Mach's names. machipc.h has what is this library's own. */
+/* The whole interface with Mach's names. This library's own functions are in machipc.h. */
 
 #ifndef _MACH_H_
 #define _MACH_H_

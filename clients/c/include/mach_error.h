@@ -9,7 +9,8 @@
 extern "C" {
 #endif
 
-/* The name of a code in Mach's headers, as "KERN_INVALID_NAME", or "unknown return code". It is never freed. */
+/* Returns the name of a code in Mach's headers, such as "KERN_INVALID_NAME", or "unknown return code". It is never
+   freed. */
 const char *mach_error_string(kern_return_t code);
 
 #ifdef __cplusplus

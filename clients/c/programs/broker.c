@@ -21,15 +21,17 @@
 #include <time.h>
 #include <unistd.h>
 
-/* Seconds that the server has for each step of a connection, and that all of a request may take before the broker ends. */
+/* The seconds that the server has for each step of a connection, and the seconds after which a request that isn't
+   finished ends its worker. */
 enum { STEP_SECONDS = 3, REQUEST_SECONDS = 15 };
 
-/* Milliseconds before a worker that ended is started again, and that the broker's end is waited for. */
+/* The milliseconds between a worker's end and the start of the next one, and the longest that broker_end waits for the
+   broker's end. */
 enum { PAUSE = 100, LAST_MILLISECONDS = 500 };
 
 /* Requests. */
 
-/* All descriptors that came with a message; the first of them, and the others are closed. */
+/* Returns the first descriptor that came with a message, or -1 if none did, and closes the others. */
 static int first_of(struct msghdr *head) {
     int first = -1;
     for (struct cmsghdr *it = CMSG_FIRSTHDR(head); it != NULL; it = CMSG_NXTHDR(head, it)) {
@@ -50,14 +52,14 @@ static int first_of(struct msghdr *head) {
     return first;
 }
 
-/* Waits for the next message. Whether there is one, or may be later. */
+/* Waits for the next message. Returns false if waiting failed, other than by a signal. */
 static bool await_request(int end) {
     struct pollfd polled = {.fd = end, .events = POLLIN};
     return poll(&polled, 1, -1) > 0 || errno == EINTR;
 }
 
-/* Takes a message, and gives the descriptor that it brought, or -1 where it brought none. Whether there may be another one:
-   not once no process of the command has the other end, or one of them has shut it down. */
+/* Receives a message, and gives the descriptor that came with it, or -1 if none did. Returns false if there can't be
+   another message, since no process of the command has the other end any more or one of them has shut it down. */
 static bool take_request(int end, int *asked) {
     union {
         struct cmsghdr aligned;
@@ -69,7 +71,7 @@ static bool take_request(int end, int *asked) {
         .msg_iov = &content,
         .msg_iovlen = 1,
         .msg_control = control.bytes,
-        .msg_controllen = CMSG_LEN(sizeof(int)), /* the system closes what is sent beyond it */
+        .msg_controllen = CMSG_LEN(sizeof(int)), /* the system closes any descriptor beyond it */
     };
     *asked = -1;
     ssize_t length = recvmsg(end, &head, MSG_CMSG_CLOEXEC | MSG_DONTWAIT);
@@ -77,13 +79,13 @@ static bool take_request(int end, int *asked) {
         return errno == EINTR || errno == EAGAIN;
     }
     *asked = first_of(&head);
-    /* No bytes are the end, or a message without any. */
+    /* A length of zero is the end, or an empty message. */
     struct pollfd polled = {.fd = end, .events = POLLRDHUP};
     return length > 0 || poll(&polled, 1, 0) == 0;
 }
 
-/* Whether a descriptor is one end of a pair of sockets as clients make them. Nothing is written to anything else, since it
-   would be written with machrun's rights. */
+/* Returns true if a descriptor is one end of a pair of sockets of the kind that clients make. Nothing may be written to
+   any other descriptor, because it would be written with machrun's rights. */
 static bool is_of_pair(int asked) {
     int domain = 0, type = 0;
     struct sockaddr_un own, others;
@@ -94,13 +96,13 @@ static bool is_of_pair(int asked) {
            getpeername(asked, (struct sockaddr *) &others, &of_others) == 0 && of_others == sizeof others.sun_family;
 }
 
-/* Whether who asked waits yet. */
+/* Returns true if the process that asked is still waiting. */
 static bool is_awaited(int asked) {
     struct pollfd polled = {.fd = asked};
     return poll(&polled, 1, 0) == 0;
 }
 
-/* Answers with a byte, and with a descriptor unless it is -1. Whether that was done. */
+/* Answers with a byte, and with a descriptor unless it is -1. Returns true if the answer was sent. */
 static bool answer(int asked, unsigned char byte, int given) {
     union {
         struct cmsghdr aligned;
@@ -128,7 +130,7 @@ static void limit(int made, int seconds) {
     setsockopt(made, SOL_SOCKET, SO_SNDTIMEO, &time, sizeof time);
 }
 
-/* The code of a call that has at most one argument, or BROKERED_LATER where the server doesn't answer. */
+/* Makes a call that has at most one argument. Returns its code, or BROKERED_LATER if the server doesn't answer. */
 static uint32_t call(int made, uint32_t number, const uint32_t *argument) {
     static struct frame frame;
     frame_begin(&frame, number);
@@ -142,8 +144,9 @@ static uint32_t call(int made, uint32_t number, const uint32_t *argument) {
     return frame.is_bad || found != number || code >= BROKERED_LATER ? BROKERED_LATER : code;
 }
 
-/* Takes a new connection to the command's space for good. The number may be another space's by now, so the connection is
-   given only where the space that it is confined to has the name by which machrun knows its own. */
+/* Attaches a new connection to the command's space and confines it there. The space's number may belong to another
+   space by now, so the connection is given to the command only if its space has the name by which machrun knows the
+   command's space. */
 static uint32_t enter(int made, const struct broker *broker) {
     uint32_t code = call(made, CALL_ATTACH, &broker->space);
     if (code == KERN_SUCCESS) {
@@ -184,8 +187,8 @@ static void serve(int asked, const struct broker *broker) {
     }
 }
 
-/* The worker: it answers requests. What holds it up ends it, by the signal of its clock. Also to take a message may, where it
-   brought more descriptors than there is room for. */
+/* The worker, which answers requests. One that is blocked for too long is ended by its alarm. Receiving a message may
+   block too, if the message brought more descriptors than there is room for. */
 static void work(const struct broker *broker, int end) {
     int asked;
     bool goes_on = true;
@@ -201,9 +204,9 @@ static void work(const struct broker *broker, int end) {
     _exit(0);
 }
 
-/* The process above it, which machrun knows: it starts a worker again that something ended. */
+/* The process above the worker, which machrun knows: it starts a new worker when a signal ended the last one. */
 
-static volatile sig_atomic_t worker; /* its process, or 0 */
+static volatile sig_atomic_t worker; /* its process id, or 0 */
 static volatile sig_atomic_t is_over;
 
 static void end_worker(int number) {
@@ -218,7 +221,7 @@ static void sleep_for(long milliseconds) {
     nanosleep(&(struct timespec){.tv_nsec = milliseconds * 1000000}, NULL);
 }
 
-/* A process of the broker ends with the one that started it. */
+/* Makes the calling process end with its parent. */
 static void end_with(pid_t parent) {
     prctl(PR_SET_PDEATHSIG, SIGKILL);
     if (getppid() != parent) {
@@ -226,7 +229,7 @@ static void end_with(pid_t parent) {
     }
 }
 
-/* Starts a worker, unless all is over. */
+/* Starts a worker, unless the broker is to end. */
 static void start_worker(const struct broker *broker, int end, const sigset_t *signals) {
     pid_t own = getpid();
     sigprocmask(SIG_BLOCK, signals, NULL);
@@ -252,7 +255,7 @@ static void see_workers(const struct broker *broker, int end, pid_t parent) {
     sigemptyset(&signals);
     sigaddset(&signals, SIGUSR1);
     sigaddset(&signals, SIGALRM);
-    /* What asks machrun to end is for the command: the broker goes on until that has ended. */
+    /* Signals that ask machrun to end are meant for the command. The broker continues until the command has ended. */
     signal(SIGHUP, SIG_IGN);
     signal(SIGINT, SIG_IGN);
     signal(SIGTERM, SIG_IGN);
@@ -271,7 +274,8 @@ static void see_workers(const struct broker *broker, int end, pid_t parent) {
     }
 }
 
-/* machrun's side. It keeps no copy of the broker's end: its close would wait too for what the command left in the queue. */
+/* machrun's side. It keeps no copy of the broker's end of the pair, because closing that would wait too for what the
+   command left in the queue. */
 
 static bool start(struct broker *broker, const int *pair) {
     pid_t parent = getpid();
@@ -289,7 +293,7 @@ bool broker_begin(struct broker *broker) {
     if (socketpair(AF_UNIX, SOCK_SEQPACKET | SOCK_CLOEXEC, 0, pair) != 0) {
         return false;
     }
-    /* Not in the place of the command's standard input, output or errors, where these are closed. */
+    /* At least 3, so that it can't replace the command's standard input, output or errors if these are closed. */
     broker->end_of_command = fcntl(pair[1], F_DUPFD_CLOEXEC, 3);
     close(pair[1]);
     bool is_done = broker->end_of_command >= 0 && start(broker, pair);
@@ -323,7 +327,7 @@ void broker_end(struct broker *broker) {
     if (broker->process != 0) {
         kill(broker->process, SIGUSR1);
         if (!has_ended(broker->process)) {
-            kill(broker->process, SIGKILL); /* and what its worker is held up by is left to the system */
+            kill(broker->process, SIGKILL); /* the system ends the worker, whatever blocks it */
         }
     }
     broker->process = 0;

@@ -1,9 +1,10 @@
 /*
- * What gives a confined command its connections: two processes of machrun's own, alongside the command.
+ * The broker, which gives a confined command its connections: two processes of machrun, alongside the command.
  *
- * They are processes since a descriptor that the command sends may hold up whoever closes it: machrun itself never has one, so
- * it sees the command's end whatever is sent. One answers requests, with one connection at a time, each made in a few seconds
- * or not at all; where it is held up longer it ends. The other one starts it again.
+ * They are separate processes because closing a descriptor that the command sent may block. machrun itself never has
+ * such a descriptor, so it notices the command's end whatever the command sends. One process, the worker, answers
+ * requests, one at a time, and either makes each connection within a few seconds or refuses it. A worker that is
+ * blocked for longer ends, and the other process starts a new one.
  */
 
 #ifndef MACHRUN_BROKER_H
@@ -16,18 +17,18 @@
 struct broker {
     const char *socket;
     machipc_space_t space;
-    mach_port_t name;   /* which the space has, and no space that gets its number later */
-    int end_of_command; /* of the pair, or -1 once the command has it */
-    pid_t process;      /* 0: none */
+    mach_port_t name;   /* a name that the space has, and that no later space with its number has */
+    int end_of_command; /* of the pair, or -1 once it was given to the command */
+    pid_t process;      /* 0 if there is none */
 };
 
-/* Makes the pair, and starts the broker. Whether that was done; if not, errno says why. */
+/* Makes the pair and starts the broker. Returns true if that was done; otherwise errno says why. */
 bool broker_begin(struct broker *broker);
 
-/* The command has its end, and machrun keeps none. */
+/* Closes machrun's copy of the command's end, once the command has its own. */
 void broker_was_given(struct broker *broker);
 
-/* Ends the broker, and waits for that, but not for long. */
+/* Ends the broker, and waits for its end for a short time only. */
 void broker_end(struct broker *broker);
 
 #endif

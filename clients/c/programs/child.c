@@ -46,7 +46,7 @@ bool child_find_socket(struct child *child) {
     return is_found;
 }
 
-/* Whether the folder has nothing but the socket, so that nobody misses what else is in it. */
+/* Returns true if the folder contains nothing but the socket, so that hiding it hides nothing else. */
 static bool has_only(const char *folder, const char *name) {
     DIR *opened = opendir(folder);
     bool is_only = opened != NULL;
@@ -60,8 +60,9 @@ static bool has_only(const char *folder, const char *name) {
 }
 
 /*
- * Covers the socket's folder by an empty one, for this process and those that it starts. The folder and not only the socket,
- * since a server that is started again makes its socket anew, and a cover goes with what it was put over.
+ * Mounts an empty folder over the socket's folder, for this process and those that it starts. A mount over the socket
+ * itself wouldn't do: a server that is started again makes a new socket, and the mount would disappear with the old
+ * one.
  */
 static bool hide(const char *found) {
     char folder[PATH_MAX], here[PATH_MAX];
@@ -75,12 +76,12 @@ static bool hide(const char *found) {
         return false;
     }
     bool has_here = getcwd(here, sizeof here) != NULL;
-    /* Mounts that are made outside later are seen here too; those that are made here aren't seen outside. */
+    /* Mounts that are made outside later appear here too; those that are made here don't appear outside. */
     if (unshare(CLONE_NEWNS) != 0 || mount(NULL, "/", NULL, MS_REC | MS_SLAVE, NULL) != 0 ||
         mount("machrun", folder, "tmpfs", MS_RDONLY | MS_NOSUID | MS_NODEV | MS_NOEXEC, "mode=0555,size=4k") != 0) {
         return false;
     }
-    /* A process that is in the folder is below the cover, until it goes there anew. */
+    /* The current folder may be the hidden one. Changing to its path again leads into the mount. */
     return (has_here && chdir(here) == 0) || chdir("/") == 0;
 }
 
@@ -91,8 +92,8 @@ static void become_user(const struct child *child) {
     }
 }
 
-/* Takes from the command what it could reach the socket by, and says where that can't be. Programs with a user or a group of
-   their own (setuid) would be such a way too. */
+/* Removes the ways by which the command could reach the socket, and prints a warning if it can still be opened.
+   Programs that run with a user or a group of their own (setuid) would be such a way. */
 static void confine(const struct child *child) {
     bool was_root = geteuid() == 0;
     bool is_hidden = was_root && hide(child->found);

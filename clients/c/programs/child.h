@@ -1,4 +1,4 @@
-/* The command's process, from the fork to exec: its user, what it sees of the file system, and its environment. */
+/* The command's process, from fork to exec: its user, what it sees of the file system, and its environment. */
 
 #ifndef MACHRUN_CHILD_H
 #define MACHRUN_CHILD_H
@@ -7,25 +7,25 @@
 #include <stdbool.h>
 #include <sys/types.h>
 
-/* The status of machrun where it fails itself, where the command can't be run, and where there is none. */
+/* The exit status of machrun if it fails itself, if the command can't be run, and if the command isn't found. */
 enum { FAILED = 125, NOT_RUN = 126, NOT_FOUND = 127 };
 
 struct child {
     char **words;
     const char *socket;
-    char found[PATH_MAX]; /* the same without links, or empty */
-    const char *user;     /* NULL: machrun's own */
+    char found[PATH_MAX]; /* the same path without symbolic links, or empty */
+    const char *user;     /* NULL for machrun's own user */
     uid_t uid;
     gid_t gid;
-    int broker; /* the command's end of the pair, or -1: the command isn't confined */
+    int broker; /* the command's end of the pair, or -1 if the command isn't confined */
 };
 
-/* Finds the user that the command is to run as. Whether there is such a one, and machrun may become it; if not, a line on
-   standard error says why. */
+/* Finds the user that the command is to run as. Returns true if that user exists and machrun may become it; otherwise a
+   line on standard error says why not. */
 bool child_find_user(struct child *child);
 
-/* Finds where the socket is without links, to be hidden there. A server that is just being started again has none for a
-   moment; gives whether there is one now. */
+/* Finds the socket's path without symbolic links, so that it can be hidden. Returns false if there is no socket, as
+   happens for a moment while a server is started again. */
 bool child_find_socket(struct child *child);
 
 /* Becomes the command, or ends with one of the statuses above. */

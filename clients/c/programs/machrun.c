@@ -3,15 +3,15 @@
  *
  * Runs a command as a task: with a space of its own, which is destroyed when the command has ended, however it ended.
  *
- * The command is confined to the space, unless it is run with --open: it gets no path, and each of its connections comes from
- * machrun, attached to the space and confined there by the server. One connection wouldn't do: each thread of the command
- * needs one of its own, so does each child that it forks, and all of them need new ones when the server was killed and
- * started again. So machrun is a broker, whom they ask (broker.h).
+ * Without --open the command is confined to the space: it gets no path, and each of its connections comes from machrun,
+ * attached to the space and confined there by the server. One connection isn't enough: each thread of the command needs
+ * one of its own, so does each child that it forks, and all of them need new ones when the server was killed and
+ * started again. So machrun runs a broker, which they ask for connections (broker.h).
  *
- * The command may destroy its space, and then another one may get the number. machrun must neither give connections to that
- * one nor destroy it. So it makes a connection of its own before the command starts, which is confined too, and by which no
- * other space can be meant; and once that is lost it knows the space by the name of its first right, which machipc_task_begin
- * drew by chance.
+ * The command may destroy its space, and another space may then get the same number. machrun must neither give
+ * connections to that space nor destroy it. So before the command starts, machrun makes a connection of its own that is
+ * confined to the space, and can't act on any other. If that connection is lost, machrun recognises the space by the
+ * name of its first right, which machipc_task_begin chose at random.
  */
 
 #include "broker.h"
@@ -36,10 +36,10 @@ static const char usage[] =
     "With --keep a command that fails is started again in the same space, with --open it isn't confined, and with --user it\n"
     "runs as that user. With --adopt it gets the space that the environment names, which stays.\n";
 
-static volatile sig_atomic_t command;     /* its process, or 0 */
-static volatile sig_atomic_t was_stopped; /* the signal that asked for the end, or 0 */
+static volatile sig_atomic_t command;     /* its process id, or 0 */
+static volatile sig_atomic_t was_stopped; /* the signal that asked machrun to end, or 0 */
 
-/* Hands a signal on to the command; machrun itself stays until that has ended. */
+/* Passes a signal on to the command. machrun itself stays until the command has ended. */
 static void hand_on(int number) {
     was_stopped = number;
     if (command != 0) {
@@ -50,7 +50,8 @@ static void hand_on(int number) {
 static const int handed_on[] = {SIGHUP, SIGINT, SIGTERM};
 enum { HANDED_ON = sizeof handed_on / sizeof handed_on[0] };
 
-/* A signal that was ignored from the start on, as by nohup, stays so, for the command too. */
+/* Installs the handlers. A signal that machrun inherited as ignored, as under nohup, stays ignored, for the command
+   too. */
 static void handle_signals(void) {
     struct sigaction action = {.sa_handler = hand_on}, before;
     sigemptyset(&action.sa_mask);
@@ -60,7 +61,7 @@ static void handle_signals(void) {
         }
     }
     action.sa_handler = SIG_DFL;
-    sigaction(SIGCHLD, &action, NULL); /* an ignored one would take the command's status away */
+    sigaction(SIGCHLD, &action, NULL); /* with an ignored SIGCHLD the command's status would be lost */
 }
 
 static void unhandle_signals(void) {
@@ -81,13 +82,13 @@ static int fail(const char *what, kern_return_t code) {
     return FAILED;
 }
 
-/* Whether the environment has a task on this server. */
+/* Returns true if the environment names a task on this server. */
 static bool has_task(const char *socket) {
     const char *known = getenv("MACHIPC_SOCKET");
     return known != NULL && strcmp(known, socket) == 0 && getenv("MACHIPC_SPACE") != NULL;
 }
 
-/* How often a server that was just lost is tried again, and after how many milliseconds. */
+/* The number of attempts to reach a server that was just lost, and the milliseconds between two of them. */
 enum { TRIES = 300, PAUSE = 100 };
 
 static void sleep_for(long milliseconds) {
@@ -95,7 +96,8 @@ static void sleep_for(long milliseconds) {
     nanosleep(&time, NULL);
 }
 
-/* Where machrun itself has a task, it is in that task's space, and its command gets a send right to the same port. */
+/* Makes the command's space. If machrun itself runs as a task, it adopts that task's space, and the command gets a send
+   right to the same bootstrap port. */
 static kern_return_t begin_once(const char *socket, machipc_task_t *task) {
     if (!has_task(socket)) {
         kern_return_t code = machipc_connect(socket);
@@ -114,8 +116,8 @@ static kern_return_t begin_once(const char *socket, machipc_task_t *task) {
     return machipc_task_begin(own.bootstrap, has_send_right ? MACH_MSG_TYPE_COPY_SEND : MACH_MSG_TYPE_MAKE_SEND, task);
 }
 
-/* A server that is lost meanwhile, as one that is started again, is waited for. One that isn't there at first isn't, unless
-   the environment says that it was. */
+/* Makes or adopts the command's space. A server that is lost meanwhile is waited for, since it may be starting again. A
+   server that isn't there at first isn't waited for, unless the environment names a task on it. */
 static kern_return_t begin(const char *socket, bool is_adopted, machipc_task_t *task) {
     kern_return_t code = has_task(socket) ? KERN_SUCCESS : machipc_connect(socket);
     for (int i = 0; i < TRIES && code == KERN_SUCCESS; i++) {
@@ -128,7 +130,7 @@ static kern_return_t begin(const char *socket, bool is_adopted, machipc_task_t *
     return code == KERN_SUCCESS ? MACH_RCV_INTERRUPTED : code;
 }
 
-/* Goes to the command's space with a connection that is confined to it. */
+/* Connects machrun to the command's space, confined to it. */
 static kern_return_t hold(const machipc_task_t *task) {
     kern_return_t code = MACH_SEND_INTERRUPTED;
     for (int i = 0; i < TRIES && was_cut(code); i++) {
@@ -149,20 +151,22 @@ static kern_return_t look(mach_port_t name) {
     return mach_port_type(mach_task_self(), name, &type);
 }
 
-/* Sees that the space has the name by which it is known, on a connection that is to that space and to no other. */
+/* Makes sure that the space has the name by which machrun recognises it. The connection must be one that can't act on
+   any other space. */
 static kern_return_t mark(mach_port_t name) {
     kern_return_t code = look(name);
     return code == KERN_INVALID_NAME ? mach_port_allocate_name(mach_task_self(), MACH_PORT_RIGHT_DEAD_NAME, name) : code;
 }
 
 /*
- * Destroys the space of a confined command. On the first connection that is the space, whatever the command did to it. After a
- * cut it is the space that has the name; where that had been given up before, nothing says whose the space is, and it stays.
+ * Destroys the space of a confined command. On the first connection, that is the space that it is confined to, whatever
+ * the command did there. If the connection was cut, it is the space that has the name; if the command gave up the name
+ * before, the space can't be recognised, and it stays.
  */
 static kern_return_t end_confined(const machipc_task_t *task) {
     kern_return_t code = mark(task->bootstrap);
     bool was_marked = code == KERN_SUCCESS;
-    bool is_there = !was_cut(code) && code != KERN_INVALID_TASK; /* also where it could not be marked */
+    bool is_there = !was_cut(code) && code != KERN_INVALID_TASK; /* true even if it couldn't be marked */
     for (int i = 0; i < TRIES; i++) {
         if (is_there) {
             code = machipc_space_destroy();
@@ -179,8 +183,8 @@ static kern_return_t end_confined(const machipc_task_t *task) {
     return code;
 }
 
-/* Starts the command, and gives its process. A signal that comes between the fork and the parent's knowing of it is handed
-   on then. After one that came before, as while the space was made, nothing is started: 0. */
+/* Starts the command, and returns its process id. A signal between the fork and the assignment of `command` is passed
+   on after it. If a signal came before, for example while the space was made, nothing is started, and 0 is returned. */
 static pid_t start(const struct child *child) {
     sigset_t signals, before;
     sigemptyset(&signals);
@@ -199,7 +203,7 @@ static pid_t start(const struct child *child) {
     return process;
 }
 
-/* Waits for the command's end, and gives its status. */
+/* Waits for the command's end, and returns its status. */
 static int wait_for(pid_t process) {
     int ended = 0;
     while (waitpid(process, &ended, 0) < 0 && errno == EINTR) {
@@ -208,8 +212,8 @@ static int wait_for(pid_t process) {
     return WIFSIGNALED(ended) ? 128 + WTERMSIG(ended) : WEXITSTATUS(ended);
 }
 
-/* Starts the command and waits for its end, whose status it gives. Each start has a pair of its own, so that nothing that the
-   command did to the one before is left. */
+/* Starts the command, waits for its end and returns its status. Each start has a new pair of sockets, so that nothing
+   that an earlier command did to its pair has an effect on this one. */
 static int run_once(struct child *child, struct broker *broker, bool is_open) {
     if (!is_open && !broker_begin(broker)) {
         fprintf(stderr, "machrun: broker: %s\n", strerror(errno));
@@ -231,12 +235,13 @@ static int run_once(struct child *child, struct broker *broker, bool is_open) {
     return status;
 }
 
-/* Whether a command that ended so is started again. One that can't be started at all isn't. */
+/* Returns true if a command that ended with this status is started again. A command that couldn't be run at all
+   isn't. */
 static bool goes_on(bool is_kept, int status) {
     return is_kept && !was_stopped && status != 0 && status != FAILED && status != NOT_RUN && status != NOT_FOUND;
 }
 
-/* A command that ends at once isn't started more than once a second. */
+/* Waits for a second after a command that ended within one, so that it isn't started more often. */
 static void pause_after(time_t began) {
     if (time(NULL) - began < 1) {
         sleep_for(1000);
@@ -246,7 +251,7 @@ static void pause_after(time_t began) {
 struct options {
     bool is_kept;
     bool is_open;
-    bool is_adopted; /* the space is the environment's */
+    bool is_adopted; /* the space is the one that the environment names */
     struct child child;
 };
 
@@ -269,7 +274,7 @@ static int run(struct options *options, machipc_task_t *task) {
     }
 }
 
-/* Reads the command line. Whether it is one. */
+/* Reads the command line. Returns false if it isn't a valid one. */
 static bool read_options(char **words, struct options *options) {
     *options = (struct options){.child.broker = -1};
     while (*words != NULL && strncmp(*words, "--", 2) == 0) {
@@ -294,7 +299,7 @@ static bool read_options(char **words, struct options *options) {
     return true;
 }
 
-/* Whether machrun can do here what is asked of it. If not, a line on standard error says why. */
+/* Returns true if machrun can do what the options ask for; otherwise a line on standard error says why not. */
 static bool is_possible(struct options *options) {
     if (getenv("MACHIPC_FD") != NULL) {
         fprintf(stderr, "machrun: MACHIPC_FD is set: a confined task can't start tasks (machrun --open runs one that can)\n");
@@ -307,7 +312,7 @@ static bool is_possible(struct options *options) {
     return child_find_user(&options->child);
 }
 
-/* Makes the command's space, runs the command and destroys the space. */
+/* Makes the command's space, runs the command and destroys the space. Returns machrun's status. */
 static int run_in_space(struct options *options) {
     machipc_task_t task;
     kern_return_t code = begin(options->child.socket, options->is_adopted, &task);
@@ -341,7 +346,7 @@ int main(int count, char **words) {
     if (!is_possible(&options)) {
         return FAILED;
     }
-    /* Nobody else of the same user reads machrun's memory, or takes its connections. */
+    /* No other process of the same user may read machrun's memory or take its connections. */
     prctl(PR_SET_DUMPABLE, 0, 0, 0, 0);
     handle_signals();
     return run_in_space(&options);

@@ -9,7 +9,7 @@
 #include <sys/uio.h>
 #include <unistd.h>
 
-/* How many milliseconds an answer is waited for. machrun gives each within a few seconds, whatever the server does. */
+/* Milliseconds to wait for a reply. machrun gives each within a few seconds, whatever the server does. */
 enum { BROKER_PATIENCE = 20000 };
 
 /* A message of one byte, with room for a descriptor. */
@@ -49,7 +49,8 @@ bool brokered_is_broker(int descriptor) {
     return getsockopt(descriptor, SOL_SOCKET, SO_TYPE, &type, &length) == 0 && type == SOCK_SEQPACKET;
 }
 
-/* Asks, and leaves the connection with the end where the answer comes. Whether that was done; if not, errno says why. */
+/* Sends a request, and leaves the connection with the end at which the reply arrives. Returns true on success;
+   otherwise see errno. */
 static bool ask(struct connection *connection, int broker) {
     int pair[2];
     if (socketpair(AF_UNIX, SOCK_SEQPACKET | SOCK_CLOEXEC, 0, pair) != 0) {
@@ -67,7 +68,7 @@ static bool ask(struct connection *connection, int broker) {
     return false;
 }
 
-/* The same while no thread forks. */
+/* Does the same while no thread forks. */
 static bool ask_alone(struct connection *connection, int broker) {
     connection_hold_forks();
     bool is_done = ask(connection, broker);
@@ -77,12 +78,13 @@ static bool ask_alone(struct connection *connection, int broker) {
     return is_done;
 }
 
-/* Whether what failed so may be done in a moment: another asker has filled the queue, or a signal came. */
+/* Returns true if an operation that failed like this may succeed in a moment: another requester has filled the queue,
+   or a signal came. */
 static bool may_go_on(int error) {
     return error == EAGAIN || error == EINTR || error == ETOOMANYREFS || error == ENOBUFS;
 }
 
-/* Waits until there is an answer, or none comes any more. Whether it is one of these. */
+/* Waits for a reply. Returns true if there is one, or none can come any more. */
 static bool await(int socket, const struct clock_wait *wait) {
     struct pollfd polled = {.fd = socket, .events = POLLIN};
     int found;
@@ -92,7 +94,7 @@ static bool await(int socket, const struct clock_wait *wait) {
     return found > 0;
 }
 
-/* The answer's descriptor, or -1. */
+/* Returns the reply's descriptor, or -1. */
 static int descriptor_of(struct letter *letter) {
     struct cmsghdr *control = CMSG_FIRSTHDR(&letter->head);
     int descriptor = -1;
@@ -103,7 +105,7 @@ static int descriptor_of(struct letter *letter) {
     return descriptor;
 }
 
-/* Reads the answer, and puts what was given in the place of the socket that it came by. */
+/* Reads the reply, and replaces the socket by which it came by the connection in it. */
 static kern_return_t take(struct connection *connection) {
     struct letter letter;
     letter_begin(&letter);

@@ -1,4 +1,4 @@
-/* Calls by their numbers, and how each is made: once, again after a cut, or as a numbered request. */
+/* Calls by their numbers. Each is made once, again after a lost connection, or as a numbered request. */
 
 #ifndef MACHIPC_CALL_H
 #define MACHIPC_CALL_H
@@ -34,33 +34,33 @@ enum {
     CALL_CONFINE = 23
 };
 
-/* Whether the code says that the connection was cut, or that there is none. */
+/* Returns true if the code says that the connection was lost, or that there is none. */
 bool call_was_cut(kern_return_t code);
 
-/* Reads the number and the code of the reply, of which the number has to be this one. MIG_REPLY_MISMATCH: it isn't. */
+/* Reads the number and the code of the reply. MIG_REPLY_MISMATCH: the number isn't this one. */
 kern_return_t call_read(struct connection *connection, uint32_t number);
 
-/* What the reply turned out to be: none of the call. The connection ends, since it can't be in step any more. */
+/* Returns the code for a frame that is no reply to the call. The connection ends, because it may be out of step. */
 kern_return_t call_mismatch(struct connection *connection);
 
-/* Counts a call that was asked again (machipc_repeats). */
+/* Counts a call that was repeated (machipc_repeats). */
 void call_count_repeat(void);
 
-/* Makes the call in connection->call of this number as it stands, again after each cut, as long as the settings'
-   patience goes. The reply is read up to its results. */
+/* Makes the call with this number in connection->call, again after each loss, within the settings' patience. The reply
+   is read up to its results. */
 kern_return_t call_repeated(struct connection *connection, const struct settings *settings, uint32_t number);
 
-/* Makes the call in connection->call of this number as the settings' mode wants it. */
+/* Makes the call with this number in connection->call in the settings' mode. */
 kern_return_t call_make(struct connection *connection, const struct settings *settings, uint32_t number);
 
-/* All of a call whose arguments and results are words: `wanted` results, no more and no fewer. */
+/* Makes a whole call whose arguments and results are words, with exactly `wanted` results. */
 kern_return_t call_words(uint32_t number, const uint32_t *arguments, size_t count, uint32_t *results, size_t wanted);
 
-/* The same of a mach_port call, which has a task. */
+/* The same for a mach_port call, which has a task. */
 kern_return_t call_of_task(mach_port_t task, uint32_t number, const uint32_t *arguments, size_t count, uint32_t *results,
                            size_t wanted);
 
-/* A list of words as two arguments. */
+/* A list of words as two arguments: the words and their number. */
 #define WORDS(...) (const uint32_t[]){__VA_ARGS__}, sizeof((const uint32_t[]){__VA_ARGS__}) / sizeof(uint32_t)
 
 /* A call that has no results. */

@@ -3,7 +3,7 @@
 
 #include <machipc.h>
 
-/* A name drawn by chance: above those that servers give by themselves, and hardly one that another space has. */
+/* Returns a random name: above those that servers choose, so that hardly any other space has it. */
 mach_port_t chance_name(void);
 
 #endif

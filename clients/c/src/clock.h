@@ -1,4 +1,4 @@
-/* Waiting: a time that runs out, and pauses within it that grow. */
+/* Timeouts, and growing pauses within them. */
 
 #ifndef MACHIPC_CLOCK_H
 #define MACHIPC_CLOCK_H
@@ -10,17 +10,17 @@
 
 struct clock_wait {
     bool is_endless;
-    uint64_t end;   /* milliseconds of a clock that only goes on */
+    uint64_t end;   /* milliseconds of a monotonic clock */
     uint32_t pause; /* milliseconds of the next pause */
 };
 
-/* A time of so many milliseconds from now on, or CLOCK_FOR_EVER. */
+/* Returns a timeout of these milliseconds from now on, or CLOCK_FOR_EVER. */
 struct clock_wait clock_wait_for(uint32_t milliseconds);
 
-/* How many milliseconds are left: 0 where the time is over, CLOCK_FOR_EVER where it never is. */
+/* Returns the milliseconds that are left: 0 if the timeout expired, CLOCK_FOR_EVER if it never does. */
 uint32_t clock_wait_left(const struct clock_wait *wait);
 
-/* Sleeps, each time for longer, at most 50 milliseconds and no longer than the time goes. Whether some was left. */
+/* Sleeps, each time for longer, at most 50 milliseconds and not beyond the timeout. Returns true if time was left. */
 bool clock_wait_pause(struct clock_wait *wait);
 
 #endif

@@ -9,7 +9,7 @@
 #include <sys/socket.h>
 #include <sys/un.h>
 
-/* Connects the connection's new socket to the server at a path. Whether that was done; if not, errno says why. */
+/* Connects the connection's new socket to the server at a path. Returns true on success; otherwise see errno. */
 static bool connect_to(struct connection *connection, const char *path) {
     struct sockaddr_un address = {.sun_family = AF_UNIX};
     if (!settings_fits(path)) {
@@ -20,7 +20,8 @@ static bool connect_to(struct connection *connection, const char *path) {
     if (!connection_make_socket(connection)) {
         return false;
     }
-    /* A connect that a signal interrupts goes on by itself, and one that is made again says that it is connected. */
+    /* A connect that a signal interrupts continues by itself, and a second connect then reports that it is
+       connected. */
     while (connect(connection->socket, (struct sockaddr *) &address, sizeof address) != 0 && errno != EISCONN) {
         if (errno != EINTR && errno != EALREADY) {
             return false;
@@ -29,7 +30,7 @@ static bool connect_to(struct connection *connection, const char *path) {
     return true;
 }
 
-/* Makes the call in the reply's frame: the call's frame may hold one that is made again. */
+/* Makes the call in the reply's frame, because the call's frame may hold a call that is repeated. */
 static kern_return_t ask(struct connection *connection, uint32_t number) {
     struct frame *frame = &connection->reply;
     if (!frame_send(frame, connection->socket) || !frame_receive(frame, connection->socket)) {
@@ -40,7 +41,7 @@ static kern_return_t ask(struct connection *connection, uint32_t number) {
     return frame->is_bad || found != number ? MIG_REPLY_MISMATCH : (kern_return_t) code;
 }
 
-/* Takes the new socket to the settings' space, for good where the process is confined to it. */
+/* Attaches the new socket to the settings' space, and confines it if the process is confined. */
 static kern_return_t enter(struct connection *connection, const struct settings *settings) {
     kern_return_t code = KERN_SUCCESS;
     if (settings->space != MACHIPC_FIRST_SPACE) {

@@ -1,4 +1,4 @@
-/* The connections of a process: one for each thread, made at its first call, and all of them closed in a child of fork. */
+/* The connections of a process: one for each thread, made at its first call. A child of fork closes all of them. */
 
 #include "connection.h"
 
@@ -7,7 +7,7 @@
 #include <sys/socket.h>
 #include <unistd.h>
 
-static pthread_mutex_t lock = PTHREAD_MUTEX_INITIALIZER; /* of the list, and of which sockets are open */
+static pthread_mutex_t lock = PTHREAD_MUTEX_INITIALIZER; /* guards the list, and which sockets are open */
 static struct connection *first;
 static pthread_once_t prepared = PTHREAD_ONCE_INIT;
 static pthread_key_t own; /* the thread's connection */
@@ -28,8 +28,8 @@ static void close_descriptor(int *descriptor) {
     }
 }
 
-/* A child that kept its parent's sockets open would keep calls of the parent waiting that are to end with it, and the
-   server might hand one of them a message. */
+/* If a child kept its parent's sockets open, calls of the parent that should end with it would keep waiting, and the
+   server might give one of them a message. */
 static void after_fork_in_child(void) {
     for (struct connection *it = first; it != NULL; it = it->next) {
         close_descriptor(&it->socket);
@@ -41,7 +41,7 @@ static void after_fork_in_child(void) {
 static void end_with_thread(void *value) {
     struct connection *connection = value;
     if (connection->reply_port != MACH_PORT_NULL && connection->socket >= 0) {
-        pthread_setspecific(own, connection); /* the call that gives the port back uses it once more */
+        pthread_setspecific(own, connection); /* the call that releases the port uses it once more */
         mig_dealloc_reply_port(connection->reply_port);
         pthread_setspecific(own, NULL);
     }

@@ -5,7 +5,7 @@
 #include <sys/socket.h>
 #include <sys/types.h>
 
-#define PREFIX ((size_t) 4) /* bytes of the length */
+#define PREFIX ((size_t) 4) /* length of the length word in bytes */
 
 static void write_word(unsigned char *at, uint32_t word) {
     for (int i = 0; i < 4; i++) {
@@ -69,7 +69,7 @@ const unsigned char *frame_rest(const struct frame *frame) {
     return frame->bytes + PREFIX + frame->place;
 }
 
-/* A signal that comes meanwhile interrupts neither of these two; a peer that went away raises none. */
+/* Signals interrupt neither of these two, and a peer that disconnected raises none. */
 
 static bool send_all(int socket, const unsigned char *bytes, size_t count) {
     while (count > 0) {

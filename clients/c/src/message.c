@@ -16,7 +16,7 @@ void message_frame(struct connection *connection, const struct message_call *cal
     }
 }
 
-/* Says of a message that wasn't given how large it is and where it came to, so far as the buffer reaches. */
+/* Reports the size and the port of a message that wasn't returned, as far as the buffer reaches. */
 static void tell(const struct message_call *call, mach_msg_size_t size, mach_port_t member) {
     unsigned char *buffer = (unsigned char *) call->message;
     if (call->receive_size >= offsetof(mach_msg_header_t, msgh_size) + sizeof size) {
@@ -54,7 +54,8 @@ mach_msg_return_t message_no_memory(mach_msg_option_t option) {
     return option & MACH_SEND_MSG ? MACH_SEND_NO_BUFFER : MACH_RCV_HEADER_ERROR | MACH_MSG_IPC_KERNEL;
 }
 
-/* A call that went out may have been made: the half that isn't known of is named. */
+/* Returns the code of a lost connection. A call that was sent may have been made: the code names the half whose outcome
+   is unknown. */
 static mach_msg_return_t interrupted(mach_msg_option_t option, kern_return_t code) {
     if (!(option & MACH_RCV_MSG)) {
         return MACH_SEND_INTERRUPTED;

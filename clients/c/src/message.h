@@ -18,11 +18,11 @@ struct message_call {
 /* Puts a call into connection->call. Without MACH_SEND_MSG it has no message. */
 void message_frame(struct connection *connection, const struct message_call *call);
 
-/* Reads what a reply says of a message after its code: its size, its port, and where the code is MACH_MSG_SUCCESS
-   and the call receives, the message, which goes to the caller. Gives the code, or MIG_REPLY_MISMATCH. */
+/* Reads the results of a reply after its code: the size and the port of a message and, if the code is MACH_MSG_SUCCESS
+   and the call receives, the message, which is copied to the caller. Returns the code, or MIG_REPLY_MISMATCH. */
 mach_msg_return_t message_result(struct connection *connection, const struct message_call *call, kern_return_t code);
 
-/* What mach_msg answers where it is out of memory before the server was asked. */
+/* Returns the code of mach_msg if it is out of memory before the call is sent. */
 mach_msg_return_t message_no_memory(mach_msg_option_t option);
 
 /* mach_msg in the mode of machipc_once. */

@@ -1,4 +1,4 @@
-/* The rights of a message, given back. */
+/* Releases the rights of a message. */
 
 #include <mach.h>
 #include <stdbool.h>
@@ -14,8 +14,8 @@ static void destroy_made_send_once(mach_port_t name) {
     }
 }
 
-/* Gives back what a name with this disposition stands for. A right that was to be made is made and given back, so that
-   a port without senders tells of it as it would of a message that was destroyed on its way. */
+/* Releases a right with this name and disposition. A right that was to be made is made and released, so that a port
+   without senders sends its notice, as it would for a message that was destroyed in transit. */
 static void destroy_right(mach_port_t name, mach_msg_type_name_t disposition) {
     if (!MACH_PORT_VALID(name)) {
         return;
@@ -36,7 +36,7 @@ static void destroy_right(mach_port_t name, mach_msg_type_name_t disposition) {
     case MACH_MSG_TYPE_MAKE_SEND_ONCE:
         destroy_made_send_once(name);
         break;
-    default: /* MACH_MSG_TYPE_COPY_SEND takes nothing, and other types are no rights */
+    default: /* MACH_MSG_TYPE_COPY_SEND takes nothing, and other types aren't rights */
         break;
     }
 }
@@ -44,12 +44,12 @@ static void destroy_right(mach_port_t name, mach_msg_type_name_t disposition) {
 /* An item of a body. */
 struct item {
     mach_msg_type_name_t type;
-    size_t data;  /* where its data begin */
+    size_t data;  /* offset of its data */
     size_t count; /* elements */
-    size_t end;   /* where the next item begins */
+    size_t end;   /* offset of the next item */
 };
 
-/* Reads the item at a place of the body. Whether there is a whole one in line. */
+/* Reads the item at an offset of the body. Returns true if there is a whole one, with data in line. */
 static bool read_item(const unsigned char *body, size_t length, size_t place, struct item *item) {
     mach_msg_type_long_t descriptor;
     if (length - place < sizeof descriptor.msgtl_header) {

@@ -1,7 +1,7 @@
 /*
- * mach_msg in the mode of machipc_once. Each half is a numbered request, which is one attempt and doesn't wait. Waiting
- * is done here: a send is tried again, and a receive waits by a call with limit 0 and MACH_RCV_LARGE, which leaves each
- * message where it is and only says that one is there.
+ * mach_msg in the mode of machipc_once. Each half is a numbered request, which is one attempt and doesn't wait. The
+ * client waits instead: a send is repeated, and a receive waits by a call with limit 0 and MACH_RCV_LARGE, which leaves
+ * each message in the queue and only reports it.
  */
 
 #include "call.h"
@@ -11,7 +11,7 @@
 
 #define KNOWN_OPTIONS (MACH_SEND_MSG | MACH_RCV_MSG | MACH_SEND_TIMEOUT | MACH_RCV_TIMEOUT | MACH_RCV_LARGE)
 
-/* One numbered attempt at a half. */
+/* Makes one numbered attempt at a half. */
 static mach_msg_return_t attempt(struct connection *connection, const struct settings *settings,
                                  const struct message_call *half) {
     message_frame(connection, half);
@@ -25,7 +25,7 @@ static mach_msg_return_t attempt(struct connection *connection, const struct set
     if (code == KERN_RESOURCE_SHORTAGE) {
         return message_no_memory(half->option);
     }
-    /* A refusal of the request itself has no results; each answer of the call in it has a size and a port. */
+    /* A refusal of the request itself has no results; each reply to the call in it has a size and a port. */
     bool has_results = code != MIG_REPLY_MISMATCH && frame_left(&connection->reply) > 0;
     return has_results ? message_result(connection, half, code) : code;
 }
@@ -43,7 +43,7 @@ static mach_msg_return_t send_once(struct connection *connection, const struct s
     }
 }
 
-/* Waits until there is a message, and leaves it. MACH_RCV_TOO_LARGE: there is one. */
+/* Waits until there is a message, and leaves it in the queue. MACH_RCV_TOO_LARGE: there is one. */
 static mach_msg_return_t await(struct connection *connection, const struct settings *settings, const struct message_call *call,
                                const struct clock_wait *wait) {
     mach_msg_header_t nothing;

@@ -1,4 +1,4 @@
-/* A server's loop: a request, what is made of it, and its reply together with the receive of the next request. */
+/* The loop of a server: handles a request, and sends its reply in the same call that receives the next request. */
 
 #include <mach.h>
 #include <stdbool.h>
@@ -20,7 +20,7 @@ static mach_msg_return_t receive(struct loop *loop) {
     return mach_msg(&loop->request->Head, MACH_RCV_MSG, 0, loop->size, loop->port, MACH_MSG_TIMEOUT_NONE, MACH_PORT_NULL);
 }
 
-/* Sends the reply, and receives the next request where it stood. A reply by a send right, which may find a full queue,
+/* Sends the reply, and receives the next request into its buffer. A reply by a send right, which may find a full queue,
    doesn't wait for a client that takes no replies. */
 static mach_msg_return_t reply_and_receive(struct loop *loop) {
     mig_reply_header_t *reply = loop->reply;
@@ -33,14 +33,14 @@ static mach_msg_return_t reply_and_receive(struct loop *loop) {
     return mach_msg(&reply->Head, option, reply->Head.msgh_size, loop->size, loop->port, 0, MACH_PORT_NULL);
 }
 
-/* What demux said of the request. A reply that is only a header has no code, and is one of success. */
+/* Returns the code of demux for the request. A reply that is only a header has no code, and means success. */
 static kern_return_t code_of(const mig_reply_header_t *reply) {
     bool has_none = reply->Head.msgh_size != 0 && reply->Head.msgh_size < sizeof *reply;
     bool is_complex = (reply->Head.msgh_bits & MACH_MSGH_BITS_COMPLEX) != 0;
     return has_none || is_complex ? KERN_SUCCESS : reply->RetCode;
 }
 
-/* Hands the request to demux. Whether there is a reply to send. */
+/* Passes the request to demux. Returns true if there is a reply to send. */
 static bool serve(struct loop *loop, boolean_t (*demux)(mach_msg_header_t *, mach_msg_header_t *)) {
     mig_reply_header_t *reply = loop->reply;
     memset(reply, 0, sizeof *reply);
@@ -53,7 +53,7 @@ static bool serve(struct loop *loop, boolean_t (*demux)(mach_msg_header_t *, mac
         return false;
     }
     if (code != KERN_SUCCESS && code != MIG_DESTROY_REQUEST) {
-        loop->request->Head.msgh_remote_port = MACH_PORT_NULL; /* the reply tells of the fault by it */
+        loop->request->Head.msgh_remote_port = MACH_PORT_NULL; /* the reply reports the fault by this right */
     }
     if (code != KERN_SUCCESS) {
         mach_msg_destroy(&loop->request->Head);
@@ -71,7 +71,8 @@ static mach_msg_return_t run(struct loop *loop, boolean_t (*demux)(mach_msg_head
             code = reply_and_receive(loop);
         }
         if (is_of_send(code) && code != MACH_SEND_INTERRUPTED) {
-            /* The reply wasn't taken, and stands where a request would. What was cut may have been sent. */
+            /* The reply wasn't sent, and is in the buffer of a request. If the connection was lost, it may have been
+               sent. */
             mach_msg_destroy(&loop->request->Head);
         } else if (code != MACH_MSG_SUCCESS && code != MACH_RCV_TOO_LARGE && code != MACH_SEND_INTERRUPTED) {
             return code;

@@ -1,11 +1,11 @@
-/* What stubs of the Mach Interface Generator call. */
+/* Functions for stubs of the Mach Interface Generator. */
 
 #include "connection.h"
 
 #include <stdlib.h>
 
-/* The thread's port for replies, where it has one of this space. One of another space, or of the process before a fork,
-   is forgotten: it belongs there. */
+/* Returns the thread's reply port, if it has one in this space. One of another space, or of the process before a fork,
+   is forgotten, because it belongs there. */
 static mach_port_t known_port(struct connection *connection) {
     if (connection->reply_port_generation != settings_now().generation) {
         connection->reply_port = MACH_PORT_NULL;

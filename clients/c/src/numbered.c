@@ -5,13 +5,14 @@
 
 #include <pthread.h>
 
-/* The turn: a space keeps only its last request, so one is answered before the next is made, whatever the thread. */
+/* Held during a request: a space keeps only its last request, so each is answered before the next is made, by any
+   thread. */
 static pthread_mutex_t turn = PTHREAD_MUTEX_INITIALIZER;
 static pthread_once_t prepared = PTHREAD_ONCE_INIT;
 static uint32_t last_request;            /* the greatest number that was used in the space */
-static unsigned long request_generation; /* of the settings by which that space is used */
+static unsigned long request_generation; /* generation of the settings by which that space is used */
 
-/* In a child of fork nobody has the turn. */
+/* In a child of fork no thread holds the lock. */
 static void after_fork_in_child(void) {
     pthread_mutex_init(&turn, NULL);
 }
@@ -25,13 +26,13 @@ bool numbered_has(uint32_t number) {
            (number >= CALL_MOVE_MEMBER && number <= CALL_SPACE_CREATE);
 }
 
-/* What came of a request: its own code, and where that is KERN_SUCCESS the code of the call in it. */
+/* The outcome of a request: its own code and, if that is KERN_SUCCESS, the code of the call in it. */
 struct answer {
     kern_return_t own;
     kern_return_t inner;
 };
 
-/* Asks a request whose frame is in connection->call. */
+/* Makes the request whose frame is in connection->call. */
 static struct answer ask(struct connection *connection, const struct settings *settings, uint32_t request, uint32_t number) {
     struct answer answer = {.own = call_repeated(connection, settings, CALL_NUMBERED)};
     if (answer.own != KERN_SUCCESS) {
@@ -47,9 +48,9 @@ static struct answer ask(struct connection *connection, const struct settings *s
 }
 
 /*
- * Whether a request of this number would be a new one. What is asked is to destroy MACH_PORT_NULL, which is refused as a
- * new request and then changes nothing and keeps no number; no request that was done has that answer. An older number is
- * refused itself; the last one is answered as the call that it was, or is no such call.
+ * Finds out if a request with this number would be a new one. The request destroys MACH_PORT_NULL, which is refused as
+ * a new request, and then changes nothing and keeps no number; no request that was done has that reply. An older number
+ * is refused itself; the last one is answered with the reply to its call, or as another call.
  */
 static kern_return_t is_new(struct connection *connection, const struct settings *settings, uint32_t request, bool *found) {
     frame_begin(&connection->call, CALL_NUMBERED);
@@ -62,7 +63,7 @@ static kern_return_t is_new(struct connection *connection, const struct settings
     return is_told ? KERN_SUCCESS : answer.own;
 }
 
-/* Finds the greatest number that the space has used, 0 where it has none. KERN_INVALID_ARGUMENT: all are used, or the
+/* Finds the greatest number that the space has used, or 0 if there is none. KERN_INVALID_ARGUMENT: all are used, or the
    server has no such requests. */
 static kern_return_t find_last(struct connection *connection, const struct settings *settings, uint32_t *last) {
     bool found;
@@ -87,8 +88,8 @@ static kern_return_t find_last(struct connection *connection, const struct setti
     return used < UINT32_MAX - 1 ? KERN_SUCCESS : KERN_INVALID_ARGUMENT;
 }
 
-/* A number that is too low, or the same as another call's, is that of a second process in the space. Whether its call
-   was done before a cut, or not, can't be found out any more. */
+/* Handles a number that is too low, or that another call has: a second process uses the space. The outcome of its call
+   before the loss can't be found out any more. */
 static kern_return_t overtaken(struct connection *connection, const struct settings *settings) {
     find_last(connection, settings, &last_request);
     return MACH_RCV_INTERRUPTED;
@@ -96,7 +97,7 @@ static kern_return_t overtaken(struct connection *connection, const struct setti
 
 static kern_return_t ask_next(struct connection *connection, const struct settings *settings, uint32_t number) {
     if (request_generation != settings->generation) {
-        return MACH_SEND_INTERRUPTED; /* another thread went to another space meanwhile */
+        return MACH_SEND_INTERRUPTED; /* another thread moved to another space meanwhile */
     }
     if (last_request == UINT32_MAX) {
         return KERN_RESOURCE_SHORTAGE;
@@ -140,8 +141,8 @@ kern_return_t machipc_once(machipc_space_t space) {
     uint32_t last = 0;
     kern_return_t code = may_use ? find_last(connection, &wanted, &last) : KERN_NO_ACCESS;
     if (code == KERN_SUCCESS) {
-        /* The next number is left to a request that a process before this one may have on its way to the server yet: it
-           had no more than one, and whenever that comes it is another's or too old. */
+        /* The next number is left to a request that an earlier process may still have on its way to the server. It had
+           at most one, and whenever that arrives its number belongs to another call or is too old. */
         last_request = last + 1;
         request_generation = settings_use_space(space, true);
         connection->generation = request_generation;

@@ -1,10 +1,10 @@
-/* Calls on names: which there are, and what they stand for. */
+/* Calls on names and their types. */
 
 #include "call.h"
 
 #include <stdlib.h>
 
-/* A constant that servers don't give to names by themselves. */
+/* A constant that servers don't choose as a name. */
 #define OWN_TASK ((mach_port_t) 1)
 
 mach_port_t mach_task_self(void) {
@@ -16,7 +16,7 @@ mach_port_t mach_reply_port(void) {
     return mach_port_allocate(OWN_TASK, MACH_PORT_RIGHT_RECEIVE, &name) == KERN_SUCCESS ? name : MACH_PORT_NULL;
 }
 
-/* Makes a call whose result is a count and so many rows of `width` words. The reply is read up to the first row. */
+/* Makes a call whose result is a count and as many rows of `width` words. The reply is read up to the first row. */
 static kern_return_t list(mach_port_t task, uint32_t number, const uint32_t *name, uint32_t width, uint32_t *count) {
     struct connection *connection = connection_of_thread();
     if (task != mach_task_self() || connection == NULL) {
@@ -36,7 +36,7 @@ static kern_return_t list(mach_port_t task, uint32_t number, const uint32_t *nam
     return is_whole ? KERN_SUCCESS : call_mismatch(connection);
 }
 
-/* Room for words, of which there is some where none are wanted too. */
+/* Allocates room for words; not NULL for a count of 0. */
 static uint32_t *room(uint32_t count) {
     return calloc(count > 0 ? count : 1, sizeof(uint32_t));
 }

@@ -1,7 +1,7 @@
 /*
- * Receives for event loops. One that finds no message begins a wait on a second connection of the thread's, and returns. The
- * wait is a call with limit 0 and MACH_RCV_LARGE, which leaves each message where it is and only says that one is there. So a
- * wait that is given up loses nothing, and a message is taken only by the call that returns it.
+ * Receives for event loops. If there is no message, it begins a wait on a second connection of the thread, and returns.
+ * The wait is a call with limit 0 and MACH_RCV_LARGE, which leaves each message in the queue and only reports it. So a
+ * cancelled wait loses nothing, and a message is taken only by the call that returns it.
  */
 
 #include "call.h"
@@ -11,7 +11,7 @@
 #include <poll.h>
 #include <sys/epoll.h>
 
-/* The thread's connection for waits, with its descriptor for event loops, or NULL. */
+/* Returns the thread's connection for waits, with its descriptor for event loops, or NULL. */
 static struct connection *watch_of_thread(void) {
     struct connection *own = connection_of_thread();
     if (own == NULL) {
@@ -42,13 +42,13 @@ void machipc_receive_cancel(void) {
     }
 }
 
-/* Whether a wait for this port or set is under way, in the space that the process uses now. */
+/* Returns true if a wait for this port or set is pending, in the space that the process uses now. */
 static bool waits_for(const struct connection *watch, mach_port_t name) {
     return name != MACH_PORT_NULL && watch->watched == name && watch->socket >= 0 &&
            watch->generation == settings_now().generation;
 }
 
-/* What a wait asks for, and where its answer's size and port go, which nobody reads. */
+/* Returns the call of a wait. Its reply's size and port are not used. */
 static struct message_call wait_for(mach_port_t name, mach_msg_header_t *nothing) {
     return (struct message_call){.message = nothing, .option = MACH_RCV_MSG | MACH_RCV_LARGE, .receive_name = name};
 }
@@ -77,7 +77,7 @@ static bool is_over(const struct connection *watch) {
     return poll(&polled, 1, 0) != 0;
 }
 
-/* Reads how a wait ended. KERN_SUCCESS: there was a message. */
+/* Reads the outcome of a wait. KERN_SUCCESS: there was a message. */
 static kern_return_t end_wait(struct connection *watch) {
     mach_msg_header_t nothing;
     struct message_call call = wait_for(watch->watched, &nothing);
@@ -93,8 +93,8 @@ static kern_return_t end_wait(struct connection *watch) {
     return code == MACH_RCV_TOO_LARGE ? KERN_SUCCESS : code;
 }
 
-/* Takes a message, or begins to wait for one. A wait that can't begin since the server was just killed is begun again where
-   calls are numbered: the attempt in front of it has the patience. */
+/* Takes a message, or begins to wait for one. If calls are numbered, a wait that can't begin because the server was
+   just killed is begun again: the attempt before it used the patience. */
 static mach_msg_return_t take_or_wait(struct connection *watch, mach_msg_header_t *msg, mach_msg_option_t option,
                                       mach_msg_size_t size, mach_port_t name) {
     for (;;) {

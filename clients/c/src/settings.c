@@ -7,7 +7,7 @@ static pthread_mutex_t lock = PTHREAD_MUTEX_INITIALIZER;
 static pthread_once_t prepared = PTHREAD_ONCE_INIT;
 static struct settings shared = {.broker = -1, .space = MACHIPC_FIRST_SPACE, .patience = 30000};
 
-/* A fork takes the lock first, so that the child finds the settings whole. */
+/* A fork takes the lock first, so that the child's settings are consistent. */
 
 static void before_fork(void) {
     pthread_mutex_lock(&lock);
@@ -17,8 +17,8 @@ static void after_fork_in_parent(void) {
     pthread_mutex_unlock(&lock);
 }
 
-/* One process at a time numbers the calls of a space, and that is the parent. The child's calls are refused, and aren't
-   made without numbers, which would be another promise. */
+/* Only one process at a time numbers the calls of a space, and that is the parent. The child's calls are refused
+   instead of made without numbers, which would promise less. */
 static void after_fork_in_child(void) {
     shared.is_refused = shared.is_refused || shared.is_once;
     shared.is_once = false;
@@ -46,7 +46,7 @@ bool settings_fits(const char *path) {
     return path != NULL && path[0] != '\0' && strlen(path) < sizeof shared.path;
 }
 
-/* Another server: what was chosen of the one before it counts no more. */
+/* Uses another server. The choices for the former one are dropped. */
 static void use(const char *path, int broker, machipc_space_t space) {
     take_lock();
     memset(shared.path, 0, sizeof shared.path);

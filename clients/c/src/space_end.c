@@ -1,7 +1,7 @@
 /*
- * The end of a space, which has no numbered request, since the space is where its number would be kept. After a cut
- * nothing says whether the space was destroyed, and its number may be another space's by now. So a mark, a dead name that
- * was drawn by lot, is put into the space first: where the mark isn't found after a cut, the space is gone.
+ * The end of a space. It has no numbered request, because the space would keep the number. After a lost connection
+ * nothing says if the space was destroyed, and its number may already be another space's. So a mark, a dead name with a
+ * random name, is put into the space first: if the mark isn't found after a loss, the space is gone.
  */
 
 #include "space_end.h"
@@ -14,7 +14,7 @@ static kern_return_t mark(struct connection *connection, const struct settings *
     frame_put(&connection->call, MACH_PORT_RIGHT_DEAD_NAME);
     frame_put(&connection->call, name);
     kern_return_t code = call_repeated(connection, settings, CALL_ALLOCATE_NAME);
-    return code == KERN_NAME_EXISTS ? KERN_SUCCESS : code; /* it was made before a cut */
+    return code == KERN_NAME_EXISTS ? KERN_SUCCESS : code; /* it was made before a loss */
 }
 
 /* KERN_INVALID_NAME: the mark isn't there, so the space was destroyed. */

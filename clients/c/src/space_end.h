@@ -3,7 +3,7 @@
 
 #include "connection.h"
 
-/* Destroys the space of these settings, also where the connection is cut meanwhile. KERN_INVALID_TASK: it isn't there. */
+/* Destroys the space of these settings, even if the connection is lost meanwhile. KERN_INVALID_TASK: it isn't there. */
 kern_return_t space_end(struct connection *connection, const struct settings *settings);
 
 #endif

@@ -10,7 +10,7 @@
 #include <stdio.h>
 #include <stdlib.h>
 
-/* Makes the space, with a right of the caller's or that of a new port. */
+/* Makes the space, with a right of the caller's or the receive right of a new port. */
 static kern_return_t make_space(mach_port_t name, mach_msg_type_name_t disposition, machipc_task_t *task) {
     mach_port_t made = MACH_PORT_NULL;
     if (name == MACH_PORT_NULL) {
@@ -29,8 +29,8 @@ static kern_return_t make_space(mach_port_t name, mach_msg_type_name_t dispositi
     return code;
 }
 
-/* Gives the task's first right a name by chance, by which its space is known from a later one of its number. A confined process
-   can't do that, and leaves the name that the server gave. */
+/* Gives the task's first right a random name, so that its space can be told from a later one with its number. A
+   confined process can't do that, and keeps the name that the server chose. */
 static kern_return_t name_by_chance(struct connection *connection, machipc_task_t *task) {
     struct settings there = settings_now();
     if (there.is_confined) {
@@ -42,7 +42,7 @@ static kern_return_t name_by_chance(struct connection *connection, machipc_task_
     frame_put(&connection->call, task->bootstrap);
     frame_put(&connection->call, name);
     kern_return_t code = call_repeated(connection, &there, CALL_RENAME);
-    code = code == KERN_INVALID_NAME ? KERN_SUCCESS : code; /* it was done before a cut */
+    code = code == KERN_INVALID_NAME ? KERN_SUCCESS : code; /* it was done before a loss */
     task->bootstrap = name;
     if (code != KERN_SUCCESS && !call_was_cut(code)) {
         space_end(connection, &there);
@@ -91,7 +91,7 @@ kern_return_t machipc_task_export(const machipc_task_t *task) {
     return is_done ? KERN_SUCCESS : KERN_RESOURCE_SHORTAGE;
 }
 
-/* Reads a number in decimal, or in hexadecimal after 0x, of the environment. Whether there is one. */
+/* Reads a number from the environment, in decimal, or in hexadecimal after 0x. Returns true if there is one. */
 static bool import_number(const char *variable, uint32_t *number) {
     const char *text = getenv(variable);
     if (text == NULL || text[0] < '0' || text[0] > '9') {
@@ -104,8 +104,8 @@ static bool import_number(const char *variable, uint32_t *number) {
     return errno == 0 && *end == '\0' && found <= UINT32_MAX;
 }
 
-/* Uses the connections that machrun gives. A descriptor that was closed, and perhaps opened as something else, isn't
-   written to. */
+/* Uses the connections that machrun gives. Nothing is written to a descriptor that was closed, and perhaps opened as
+   something else. */
 static kern_return_t adopt_brokered(machipc_space_t space) {
     uint32_t descriptor;
     if (!import_number("MACHIPC_FD", &descriptor) || descriptor > INT_MAX || !brokered_is_broker((int) descriptor)) {

@@ -1,4 +1,5 @@
-/* A server that answers with what is no reply, or goes away: each call answers with a code. It makes that server itself. */
+/* Tests the library against a server that sends invalid replies or goes away: each call returns a code. The test
+   program makes that server itself. */
 
 #include "check.h"
 
@@ -10,7 +11,7 @@
 #include <sys/un.h>
 #include <unistd.h>
 
-/* What is answered to each frame, whole bytes as they go out. Then the connection is ended, or left open. */
+/* The bytes that the server sends after each frame. Then it closes the connection, or leaves it open. */
 static unsigned char answer[70000];
 static size_t answer_length;
 static bool ends;
@@ -25,7 +26,7 @@ static void read_frame(int peer) {
     }
 }
 
-/* Takes one connection after the other, answers one frame of each and waits until the client ends it. */
+/* Accepts one connection after the other, answers one frame of each and waits until the client closes it. */
 static void *be_server(void *nothing) {
     for (;;) {
         char end;
@@ -50,7 +51,7 @@ static void put(uint32_t word) {
     }
 }
 
-/* Prepares an answer of these words, of which the first is the frame's length, for a connection that is new. */
+/* Prepares a reply of these words, of which the first is the frame's length, for a new connection. */
 #define ANSWER(is_end, ...) prepare(is_end, (const uint32_t[]){__VA_ARGS__}, sizeof((const uint32_t[]){__VA_ARGS__}) / 4)
 
 static char path[64];
@@ -78,14 +79,14 @@ static void words_of_calls(void) {
     CHECK_CODE(mach_port_allocate(SELF, MACH_PORT_RIGHT_RECEIVE, &name), MIG_REPLY_MISMATCH);
     ANSWER(false, 4, 5); /* no code */
     CHECK_CODE(mach_port_allocate(SELF, MACH_PORT_RIGHT_RECEIVE, &name), MIG_REPLY_MISMATCH);
-    ANSWER(false, 3, 5); /* lengths that can't be */
+    ANSWER(false, 3, 5); /* impossible lengths */
     CHECK_CODE(mach_port_allocate(SELF, MACH_PORT_RIGHT_RECEIVE, &name), MACH_RCV_INTERRUPTED);
     ANSWER(false, 65533, 5, 0, 1);
     CHECK_CODE(mach_port_allocate(SELF, MACH_PORT_RIGHT_RECEIVE, &name), MACH_RCV_INTERRUPTED);
     ANSWER(true, 12, 5, 0); /* cut within the reply */
     CHECK_CODE(mach_port_allocate(SELF, MACH_PORT_RIGHT_RECEIVE, &name), MACH_RCV_INTERRUPTED);
     ANSWER(true, 12);
-    answer_length = 0; /* cut before it */
+    answer_length = 0; /* cut before the reply */
     CHECK_CODE(mach_port_allocate(SELF, MACH_PORT_RIGHT_RECEIVE, &name), MACH_RCV_INTERRUPTED);
     CHECK(name == 0xabc);
 }
@@ -117,9 +118,9 @@ static void messages(void) {
     ANSWER(false, 40, 19, 0, 24, 0x100, 0x1100, 24, 0, 0x100, 0, 7);
     CHECK_OK(receive(&message));
     CHECK(message.msgh_id == 7);
-    ANSWER(false, 44, 19, 0, 28, 0x100, 0x1100, 28, 0, 0x100, 0, 7, 8); /* more than was asked for */
+    ANSWER(false, 44, 19, 0, 28, 0x100, 0x1100, 28, 0, 0x100, 0, 7, 8); /* more words than were asked for */
     CHECK_CODE(receive(&message), MIG_REPLY_MISMATCH);
-    ANSWER(false, 40, 19, 0, 28, 0x100, 0x1100, 28, 0, 0x100, 0, 7); /* less than it says */
+    ANSWER(false, 40, 19, 0, 28, 0x100, 0x1100, 28, 0, 0x100, 0, 7); /* fewer words than it says */
     CHECK_CODE(receive(&message), MIG_REPLY_MISMATCH);
     ANSWER(false, 16, 19, 0, 0, 0); /* none, with success */
     CHECK_CODE(receive(&message), MIG_REPLY_MISMATCH);
@@ -127,7 +128,7 @@ static void messages(void) {
     CHECK_CODE(receive(&message), MIG_REPLY_MISMATCH);
     ANSWER(false, 20, 19, MACH_RCV_TIMED_OUT, 0, 0, 1);
     CHECK_CODE(receive(&message), MIG_REPLY_MISMATCH);
-    ANSWER(false, 16, 19, 0x7fffffff, 0, 0); /* a code that nobody knows is handed on */
+    ANSWER(false, 16, 19, 0x7fffffff, 0, 0); /* an unknown code is passed on */
     CHECK_CODE(receive(&message), 0x7fffffff);
     ANSWER(true, 16);
     CHECK_CODE(receive(&message), MACH_RCV_INTERRUPTED);
@@ -137,7 +138,7 @@ static void messages(void) {
     CHECK_CODE(mach_msg(&message, MACH_SEND_MSG | MACH_RCV_MSG, 24, 24, 0x100, 0, 0), MACH_RCV_INTERRUPTED);
 }
 
-/* Often 0, a small number or any number. */
+/* Returns a random word: often 0 or a small number, otherwise any number. */
 static uint32_t word_by_chance(void) {
     if (rand() % 2) {
         return 0;
@@ -145,7 +146,7 @@ static uint32_t word_by_chance(void) {
     return rand() % 2 ? (uint32_t) rand() % 64 : (uint32_t) rand();
 }
 
-/* Answers at random: whatever comes, a call answers, and nothing is read or written where it shouldn't be. */
+/* Answers at random: whatever the reply, the call returns, and nothing is read or written out of bounds. */
 static void at_random(void) {
     srand(7);
     for (int i = 0; i < 2000; i++) {
@@ -171,7 +172,7 @@ static void at_random(void) {
     }
 }
 
-/* Nobody listens any more. */
+/* The server doesn't accept connections any more. */
 static void gone(void) {
     mach_port_t name;
     mach_msg_header_t message = {0};

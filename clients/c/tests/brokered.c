@@ -1,4 +1,4 @@
-/* What the library makes of a broker's answers, also of those that machrun doesn't give. */
+/* How the library handles a broker's answers, including those that machrun never gives. */
 
 #include "check.h"
 
@@ -14,7 +14,7 @@
 #include <time.h>
 #include <unistd.h>
 
-static int broker[2]; /* the test's end, and that of the library */
+static int broker[2]; /* the test's end and the library's end */
 static const char *path;
 
 static int connected(void) {
@@ -25,7 +25,7 @@ static int connected(void) {
     return made;
 }
 
-/* A message of one byte with a descriptor, or with room for one. */
+/* A message of one byte with a descriptor, or with space for one. */
 struct letter {
     struct msghdr head;
     struct iovec content;
@@ -75,7 +75,8 @@ static void answer(int asked, char byte, int given) {
     CHECK(sendmsg(asked, &letter.head, MSG_NOSIGNAL) == 1);
 }
 
-/* Answers in turn: a later time, two codes, no answer, no connection, a connection that is cut, and two that aren't. */
+/* Answers in turn: a later time, two codes, no answer, no connection, a connection that is cut, and two connections
+   that aren't. */
 static void *give(void *unused) {
     static const char codes[] = {(char) 255, KERN_INVALID_TASK, KERN_INVALID_ARGUMENT};
     (void) unused;
@@ -128,7 +129,7 @@ static void answers(void) {
     CHECK_CODE(machipc_task_export(&task), KERN_NO_ACCESS);
 }
 
-/* Fills the queue, and gives how many messages that took. */
+/* Fills the queue, and returns the number of messages that this took. */
 static int fill(void) {
     char byte = 0;
     int count = 0;
@@ -152,7 +153,7 @@ static void *drain_and_give(void *count) {
     return NULL;
 }
 
-/* Who asks waits for room in the queue. */
+/* A request waits until there is room in the queue. */
 static void waits(void) {
     pthread_t drainer;
     machipc_task_t task;
@@ -162,7 +163,7 @@ static void waits(void) {
     pthread_join(drainer, NULL);
 }
 
-/* A broker that ended is known at once, whatever its queue holds. */
+/* A broker that ended is noticed at once, whatever its queue contains. */
 static void ends(void) {
     machipc_task_t task;
     fill();

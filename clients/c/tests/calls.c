@@ -1,4 +1,4 @@
-/* Each call on names and rights, with what it answers and its refusals. */
+/* Each call on names and rights, with its results and its refusals. */
 
 #include "check.h"
 

@@ -1,8 +1,8 @@
 /*
  * confined SECONDS
  *
- * What a confined command does, under machrun: all its connections come from machrun. For so many seconds its threads and
- * the children that it forks make calls; the server may be killed meanwhile.
+ * The calls of a confined command under machrun, with connections that all come from machrun. For the given time its
+ * threads and the children that it forks make calls; the server may be killed meanwhile.
  */
 
 #include "check.h"
@@ -27,7 +27,7 @@ static kern_return_t adopt_again(void) {
     return code;
 }
 
-/* Each call is made once, and tells by its name that it was made. */
+/* Makes names. Each call is made once, and its name shows that it was made. */
 static void *make_names(void *number) {
     mach_port_t first = FIRST_NAME + *(mach_port_t *) number * NAMES_OF_EACH;
     for (mach_port_t i = 0; time(NULL) < end; i = (i + 1) % NAMES_OF_EACH) {
@@ -37,8 +37,8 @@ static void *make_names(void *number) {
     return NULL;
 }
 
-/* A child has connections of its own, in the same space. Since its parent numbers its calls, it has to choose first whether it
-   does. */
+/* Makes a call in a forked child, which has connections of its own in the same space. Since the parent numbers its
+   calls, the child has to choose first whether it does too. */
 static int look_in_child(void) {
     mach_port_type_t type;
     kern_return_t code = mach_port_type(SELF, task.bootstrap, &type);
@@ -77,7 +77,7 @@ static void refusals(void) {
     CHECK_CODE(machipc_once(MACHIPC_FIRST_SPACE), KERN_NO_ACCESS);
     CHECK_CODE(machipc_task_export(&task), KERN_NO_ACCESS);
     CHECK_OK(machipc_task_begin(task.bootstrap, MACH_MSG_TYPE_MAKE_SEND, &below));
-    CHECK(below.bootstrap < 0x80000000u); /* the name that the server gave */
+    CHECK(below.bootstrap < 0x80000000u); /* the name that the server chose */
     CHECK_CODE(machipc_attach(below.space), KERN_NO_ACCESS);
     CHECK_CODE(machipc_task_end(&below), KERN_NO_ACCESS);
     printf("%u ", (unsigned) below.space);

@@ -1,4 +1,4 @@
-/* Receives of an event loop: machipc_receive and machipc_fd. */
+/* Receives in an event loop: machipc_receive and machipc_fd. */
 
 #include "check.h"
 
@@ -40,7 +40,7 @@ static void one_message(void) {
     CHECK_CODE(receive(port, &note), MACH_RCV_IN_PROGRESS);
     CHECK_CODE(receive(port, &note), MACH_RCV_IN_PROGRESS);
     CHECK(!is_readable(0));
-    CHECK_OK(send_to(port, 2)); /* as all other calls are made while a receive is under way */
+    CHECK_OK(send_to(port, 2)); /* other calls may be made while a receive is under way */
     CHECK(check_port_status(port).mps_msgcount == 1);
     CHECK(is_readable(LONG));
     CHECK_OK(receive(port, &note));
@@ -48,7 +48,7 @@ static void one_message(void) {
     CHECK(!is_readable(0));
 }
 
-/* Another receive takes the message first, and then the wait goes on. */
+/* Another receive takes the message first; then the wait continues. */
 static void overtaken(void) {
     struct note note;
     CHECK_CODE(receive(port, &note), MACH_RCV_IN_PROGRESS);
@@ -59,7 +59,7 @@ static void overtaken(void) {
     CHECK(!is_readable(0));
 }
 
-/* A receive that is given up, for another port or for none, has taken nothing. */
+/* A receive that is given up, for another port or for none, takes no message. */
 static void given_up(void) {
     struct note note;
     mach_port_t other = check_port();
@@ -90,7 +90,7 @@ static void refusals(void) {
     CHECK_OK(mach_port_destroy(SELF, other));
     CHECK(is_readable(LONG));
     kern_return_t code = receive(other, &note);
-    CHECK(code == MACH_RCV_PORT_DIED || code == MACH_RCV_INVALID_NAME); /* as the wait or the end comes first */
+    CHECK(code == MACH_RCV_PORT_DIED || code == MACH_RCV_INVALID_NAME); /* depending on which comes first */
     CHECK(!is_readable(0));
     CHECK_OK(send_to(port, 6));
     CHECK_CODE(machipc_receive(&note.head, MACH_RCV_LARGE, sizeof note.head, port), MACH_RCV_TOO_LARGE);
@@ -106,7 +106,7 @@ static void *send_many(void *from) {
     return NULL;
 }
 
-/* Many messages come, each once and in its sender's order. */
+/* Many messages arrive, each once and in its sender's order. */
 static void many(void) {
     pthread_t senders[SENDERS];
     int numbers[SENDERS], next[SENDERS] = {0};
@@ -131,7 +131,7 @@ static void many(void) {
     }
 }
 
-/* A child has a descriptor of its own, and leaves the parent's wait alone. */
+/* A child has a descriptor of its own, and doesn't disturb the parent's wait. */
 static void forked(void) {
     struct note note;
     int ended = 1;
@@ -150,7 +150,7 @@ static void forked(void) {
     CHECK_OK(receive(port, &note));
 }
 
-/* A wait in one space isn't one in another that has the same name. */
+/* A wait in one space isn't a wait in another space that has the same name. */
 static void in_another_space(void) {
     machipc_space_t own = machipc_space();
     machipc_task_t task = {0};

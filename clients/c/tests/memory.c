@@ -1,15 +1,16 @@
-/* Each allocation of the library refused in turn: a code, nothing leaked, and the same call done when it is made again. */
+/* Refuses each allocation of the library in turn: the call returns a code, nothing is leaked, and the same call
+   succeeds when it is repeated. */
 
 #include "check.h"
 
 #include <pthread.h>
 #include <stdlib.h>
 
-/* The linker puts these in place of calloc (see Makefile). */
+/* The linker puts the functions below in place of calloc and its like (see Makefile). */
 void *__real_calloc(size_t count, size_t size);
 void *__wrap_calloc(size_t count, size_t size);
 
-static _Thread_local int allowed = -1; /* allocations before one is refused, or -1 */
+static _Thread_local int allowed = -1; /* the allocations before the one that is refused, or -1 for no refusal */
 
 void *__wrap_calloc(size_t count, size_t size) {
     if (allowed == 0) {
@@ -23,7 +24,7 @@ void *__wrap_calloc(size_t count, size_t size) {
 static const char *path;
 static mach_port_t port;
 
-/* Each is the first of its thread, which has no connection yet. */
+/* Makes calls of which each is the first of its thread: the refused ones leave it without a connection. */
 static void *first_calls(void *nothing) {
     mach_port_t name = 9;
     mach_msg_header_t message = {0};
@@ -83,7 +84,7 @@ static void tasks(void) {
     allowed = 0;
     CHECK_CODE(machipc_task_begin(port, MACH_MSG_TYPE_MAKE_SEND, &task), KERN_RESOURCE_SHORTAGE);
     CHECK_OK(machipc_task_begin(port, MACH_MSG_TYPE_MAKE_SEND, &task));
-    CHECK(task.space == next.space); /* none was left */
+    CHECK(task.space == next.space); /* no space was left behind */
     allowed = 0;
     CHECK_CODE(machipc_task_end(&task), KERN_RESOURCE_SHORTAGE);
     CHECK_OK(machipc_task_end(&task));

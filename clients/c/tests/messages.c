@@ -1,11 +1,11 @@
-/* mach_msg: what is sent and received, what is refused, and what waits. */
+/* mach_msg: sending, receiving, refusals, and waiting. */
 
 #include "check.h"
 
 #include <stddef.h>
 #include <string.h>
 
-/* The layout is that of 32 bits, whatever the machine. */
+/* The layout is that of 32 bits on every machine. */
 _Static_assert(sizeof(mach_msg_header_t) == 24, "a header is six words");
 _Static_assert(sizeof(mach_msg_type_t) == 4 && sizeof(mach_msg_type_long_t) == 12, "descriptors are one word and three");
 _Static_assert(sizeof(mig_reply_header_t) == 32, "a reply's code stands in its eighth word");
@@ -125,7 +125,7 @@ static void rights_in_messages(mach_port_t port) {
 
     sent = carrier_of(port, carried, MACH_MSG_TYPE_MAKE_SEND_ONCE);
     sent.head.msgh_size = sizeof sent;
-    mach_msg_destroy(&sent.head); /* never sent: the send-once right is made and given back, which gives a notice */
+    mach_msg_destroy(&sent.head); /* never sent: the send-once right is made and given up, which causes a notice */
     CHECK(check_port_status(carried).mps_msgcount == 1);
 
     sent = carrier_of(port, carried, MACH_MSG_TYPE_MOVE_RECEIVE);
@@ -138,7 +138,7 @@ static void rights_in_messages(mach_port_t port) {
     mach_msg_destroy(NULL);
 }
 
-/* Descriptors that can't be are passed over, and nothing after the end of the message is read. */
+/* Invalid descriptors are ignored, and nothing after the end of the message is read. */
 static void bent_bodies(void) {
     mach_port_t port = check_port();
     struct carrier bent = carrier_of(MACH_PORT_NULL, port, MACH_MSG_TYPE_MOVE_RECEIVE);

@@ -1,6 +1,6 @@
 /*
- * Calls in the mode of machipc_once, to a server that is killed or cuts connections meanwhile: each has one effect and one
- * answer. Its second word, if there is one, says how often the work is done.
+ * Calls in the mode of machipc_once, to a server that is killed or cuts connections meanwhile: each has one effect and
+ * one answer. The optional second argument is the number of rounds.
  */
 
 #include "check.h"
@@ -20,7 +20,7 @@ struct note {
     uint32_t words[2];
 };
 
-/* What isn't made as a numbered request may be cut, and is made again here. */
+/* Returns true if a call was cut. Calls that aren't made as numbered requests may be cut, and are repeated here. */
 static bool was_cut(kern_return_t code) {
     nanosleep(&(struct timespec){.tv_nsec = code == MACH_SEND_INTERRUPTED ? 5000000 : 0}, NULL);
     return code == MACH_SEND_INTERRUPTED || code == MACH_RCV_INTERRUPTED;
@@ -96,7 +96,7 @@ static void messages(mach_port_t port) {
     CHECK(check_port_status(port).mps_seqno == 2 * MESSAGES && check_port_status(port).mps_msgcount == 0);
 }
 
-/* A message that is too large is destroyed once, and the one after it stays. */
+/* A message that is too large is destroyed once, and the message after it stays. */
 static void too_large(mach_port_t port) {
     for (int i = 0; i < 3; i++) {
         struct note note = note_to(port, i);
@@ -114,7 +114,7 @@ static void too_large(mach_port_t port) {
 
 static mach_port_t shared;
 
-/* The next message, for which the program waits as an event loop does. */
+/* Receives the next message, for which the program waits as an event loop does. */
 static kern_return_t receive_by_events(mach_port_t port, struct note *note) {
     struct pollfd polled = {.fd = machipc_fd(), .events = POLLIN};
     for (;;) {
@@ -136,8 +136,8 @@ static void *send_many(void *from) {
     return NULL;
 }
 
-/* Threads that wait for room, and one that waits for messages, every other one by its event loop: each message comes once, and
-   in its sender's order. */
+/* Several threads wait for room in the queue, and one waits for messages, every other time with an event loop. Each
+   message arrives once, and in its sender's order. */
 static void threads(mach_port_t port) {
     pthread_t senders[SENDERS];
     int numbers[SENDERS], next[SENDERS] = {0};
@@ -163,10 +163,11 @@ static void threads(mach_port_t port) {
     CHECK(check_port_status(port).mps_msgcount == 0);
 }
 
-/* A second process that numbers its calls in the same space, against the rule: the first one's next call gets a code. */
+/* A second process that numbers its calls in the same space breaks the rule: the first process's next call gets a
+   code. */
 static void overtaken(machipc_space_t space) {
     int ended = 0;
-    mach_port_t name = check_port(); /* this one's number is the space's last */
+    mach_port_t name = check_port(); /* this process's number is now the last one of the space */
     pid_t child = fork();
     if (child == 0) {
         mach_port_t none;
@@ -195,7 +196,7 @@ static void work(const char *path) {
     send_once_rights(ports[0]);
     messages(ports[1]);
     too_large(ports[2]);
-    CHECK_OK(machipc_once(task.space)); /* as a task that starts again does: it finds the number that was used last */
+    CHECK_OK(machipc_once(task.space)); /* as a task does that starts again: it finds the number that was used last */
     threads(ports[3]);
     overtaken(task.space);
     CHECK_OK(machipc_sweep(&task.bootstrap, 1));

@@ -1,4 +1,4 @@
-/* mach_msg_server, with routines as the Mach Interface Generator makes them. */
+/* mach_msg_server, with routines like those that the Mach Interface Generator makes. */
 
 #include "check.h"
 
@@ -50,7 +50,7 @@ static boolean_t demux(mach_msg_header_t *request, mach_msg_header_t *reply) {
         one_ways++;
         made->RetCode = MIG_NO_REPLY;
         return TRUE;
-    case BENT_REPLY: /* larger than its buffer, and of items that can't be */
+    case BENT_REPLY: /* larger than its buffer, with invalid items */
         made->RetCode = KERN_SUCCESS;
         reply->msgh_bits |= MACH_MSGH_BITS_COMPLEX;
         reply->msgh_size = 1000000;
@@ -96,7 +96,8 @@ static void ask_and_check(mach_msg_id_t id, uint32_t number, kern_return_t code)
     }
 }
 
-/* Requests whose replies can't be sent: to a port that died, to a full queue, too large to be received, and bent ones. */
+/* Requests whose replies can't be sent: to a port that died, to a full queue, too large to be received, and invalid
+   ones. */
 static void unanswerable(void) {
     union exchange exchange = {.request = {.numbers = {1, 2}}};
     mach_port_t gone = check_port(), full = check_port();
@@ -112,8 +113,8 @@ static void unanswerable(void) {
     memcpy(large, &head, sizeof head);
     CHECK_OK(mach_msg((mach_msg_header_t *) large, MACH_SEND_MSG, sizeof large, 0, MACH_PORT_NULL, 0, MACH_PORT_NULL));
     ask_and_check(ADD, 5, KERN_SUCCESS);
-    /* All of the above was answered, and no right of it is left. The bent reply was destroyed with its send-once right,
-       whose notice came, by that right. */
+    /* All requests above were answered, and no right of them is left. The invalid reply was destroyed with its
+       send-once right, whose notice went to that right's port. */
     mach_port_status_t status = check_port_status(full);
     CHECK(!status.mps_srights && status.mps_sorights == 1 && status.mps_msgcount == 1);
     CHECK_OK(mach_port_destroy(SELF, full));

@@ -49,7 +49,7 @@ static void adopted_and_swept(mach_port_t port) {
     CHECK_OK(machipc_attach(own));
     CHECK_OK(machipc_task_end(&task));
 
-    setenv("MACHIPC_FD", "0", 1); /* which is no pair of sockets */
+    setenv("MACHIPC_FD", "0", 1); /* which isn't an end of a pair of sockets */
     CHECK_CODE(machipc_adopt(&found), KERN_INVALID_ARGUMENT);
     CHECK_OK(machipc_task_export(&task));
     CHECK(getenv("MACHIPC_FD") == NULL);
@@ -72,7 +72,7 @@ static void *call_and_attach(void *unused) {
     return NULL;
 }
 
-/* A process that confined itself is so in all its threads, until it connects anew. */
+/* A process that confined itself is confined in all its threads, until it connects anew. */
 static void confined_itself(mach_port_t port, const char *path) {
     machipc_task_t task = {0};
     machipc_space_t own = machipc_space();

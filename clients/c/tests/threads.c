@@ -22,7 +22,7 @@ static void *send_many(void *from) {
     return NULL;
 }
 
-/* Threads send to a queue of one place, and wait for it; one thread receives, and waits too. */
+/* Threads send to a queue with room for one message, and wait for room; one thread receives, and waits for messages. */
 static void many_threads(void) {
     pthread_t threads[THREADS];
     int numbers[THREADS], next[THREADS] = {0};
@@ -59,13 +59,13 @@ static void reply_ports(void) {
     CHECK(pthread_create(&thread, NULL, use_reply_port, &other) == 0);
     pthread_join(thread, NULL);
     CHECK(own != other);
-    CHECK(check_type(other) == MACH_PORT_TYPE_NONE); /* it went with its thread */
+    CHECK(check_type(other) == MACH_PORT_TYPE_NONE); /* the right ended with its thread */
     mig_dealloc_reply_port(own);
     CHECK(check_type(own) == MACH_PORT_TYPE_NONE);
     CHECK(mig_get_reply_port() != MACH_PORT_NULL);
 }
 
-/* The child is in the same space by a connection of its own, with a port for replies of its own. */
+/* The child acts in the same space on a connection of its own, with a reply port of its own. */
 static void forked(void) {
     mach_port_t own = mig_get_reply_port();
     pid_t child = fork();
@@ -91,8 +91,8 @@ static void *wait_long(void *port) {
     return NULL;
 }
 
-/* A process that waits in a second thread forks and is killed. Its child says that it is there, and lives on until the
-   other end of the pair is closed. */
+/* Forks a process that waits in a second thread, forks a child and is killed. The child reports that it has started,
+   and lives until the other end of the pair is closed. */
 static pid_t fork_one_that_waits(mach_port_t port, const int *pair) {
     pid_t parent = fork();
     if (parent == 0) {
@@ -109,7 +109,8 @@ static pid_t fork_one_that_waits(mach_port_t port, const int *pair) {
     return parent;
 }
 
-/* Then nobody waits any more: the child has closed what it had of its parent's connections, and no message goes there. */
+/* Nobody waits any more after that: the child has closed its copies of the parent's connections, and no message goes
+   there. */
 static void a_wait_that_ends_with_its_process(void) {
     mach_port_t port = check_port();
     int pair[2];

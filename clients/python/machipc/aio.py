@@ -228,7 +228,7 @@ class AsyncTask:
             return
 
     def _open(self) -> None:
-        """Opens a connection for a wait. Runs on some thread: what it opens is there also if the wait was cancelled."""
+        """Opens a connection for a wait, on another thread: the connection exists even if the wait was cancelled."""
         generation = self._generation
         try:
             made = routes.open_socket(self.task._route, self.task.space, self.task._is_confined)

@@ -99,11 +99,11 @@ class KERN_NAME_EXISTS(MachError, code=13):
 
 
 class KERN_INVALID_NAME(MachError, code=15):
-    """The name stands for nothing."""
+    """The name isn't in use."""
 
 
 class KERN_INVALID_TASK(MachError, code=16):
-    """The space isn't there."""
+    """The space is gone."""
 
 
 class KERN_INVALID_RIGHT(MachError, code=17):
@@ -119,7 +119,7 @@ class KERN_UREFS_OVERFLOW(MachError, code=19):
 
 
 class KERN_INVALID_CAPABILITY(MachError, code=20):
-    """The right that was to be given can't be."""
+    """The right can't be given like this."""
 
 
 class KERN_RIGHT_EXISTS(MachError, code=21):
@@ -131,7 +131,7 @@ class MACH_SEND_INVALID_DEST(MachError, code=0x10000003):
 
 
 class MACH_SEND_TIMED_OUT(MachError, TimeoutError, code=0x10000004):
-    """The queue is full, and the time is over."""
+    """The queue was full until the timeout."""
 
 
 class MACH_SEND_INTERRUPTED(MachError, ConnectionError, code=0x10000007):
@@ -159,11 +159,11 @@ class MACH_SEND_NO_BUFFER(MachError, code=0x1000000D):
 
 
 class MACH_SEND_INVALID_TYPE(MachError, code=0x1000000F):
-    """A descriptor that can't be."""
+    """An invalid descriptor."""
 
 
 class MACH_SEND_INVALID_HEADER(MachError, code=0x10000010):
-    """Dispositions that can't be."""
+    """Invalid dispositions."""
 
 
 class MACH_RCV_INVALID_NAME(MachError, code=0x10004002):
@@ -190,7 +190,7 @@ class MACH_RCV_PORT_CHANGED(MachError, code=0x10004006):
 
 
 class MACH_RCV_PORT_DIED(MachError, code=0x10004009):
-    """The receive right or the set went meanwhile."""
+    """The receive right or the set was destroyed or moved away meanwhile."""
 
 
 class MACH_RCV_IN_SET(MachError, code=0x1000400A):
@@ -210,15 +210,15 @@ class MACH_RCV_HEADER_ERROR_IPC_KERNEL(MACH_RCV_HEADER_ERROR, code=0x1000480B):
 
 
 class MIG_REPLY_MISMATCH(MachError, code=-301):
-    """What came from the server is no reply to the call."""
+    """The server's frame is no reply to the call."""
 
 
 class MIG_TYPE_ERROR(MachError, code=-300):
-    """The arguments of a request have other types."""
+    """The arguments of a request have the wrong types."""
 
 
 class MIG_REMOTE_ERROR(MachError, code=-302):
-    """The server failed at a request."""
+    """The server failed while it handled a request."""
 
 
 class MIG_BAD_ID(MachError, code=-303):

@@ -159,7 +159,7 @@ class Exchange:
         return used
 
     def _numbers_of_space(self) -> Numbers:
-        # The next number is left to a request that a program before this one may have on its way to the server yet.
+        # One number is skipped, since a program before this one may have a request with it on its way to the server.
         return Numbers(self._last_request() + 1)
 
     def _make_numbered(self, numbers: Numbers, number: int, arguments: bytes) -> Tuple[int, bytes]:
@@ -180,7 +180,7 @@ class Exchange:
     # Calls.
 
     def _make(self, number: int, arguments: bytes) -> bytes:
-        """Returns the results of a call, which is made as the task's mode wants it."""
+        """Makes a call in the task's mode, and returns its results."""
         frame = wire.words(number) + arguments
         if not self._numbers:
             return self._results(number, self._exchange(frame))
@@ -199,7 +199,7 @@ class Exchange:
         return struct.unpack(f"<{len(results) // 4}I", results)
 
     def _rows(self, number: int, *arguments: int, width: int) -> Tuple[int, ...]:
-        """Makes a call that answers a count and so many rows, and returns the words of all rows."""
+        """Makes a call that is answered with a count and that many rows, and returns the words of all rows."""
         count, *rows = self._call(number, *arguments, wanted=None) or (0, 0)
         if len(rows) != width * count:
             raise self._mismatch()
@@ -210,7 +210,7 @@ _all: "weakref.WeakSet[Exchange]" = weakref.WeakSet()
 
 
 def register(made: Exchange) -> None:
-    """Notes a task, whose connection a child of fork doesn't share."""
+    """Registers a task, so that a child of fork doesn't share its connection."""
     _all.add(made)
 
 

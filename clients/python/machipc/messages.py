@@ -25,7 +25,7 @@ class Ports:
 
 @dataclasses.dataclass(frozen=True)
 class Data:
-    """An item of data: `number` elements of `bits` bits each, in so many bytes."""
+    """An item of data: `number` elements of `bits` bits each, in as many bytes as they take."""
 
     type: int
     bits: int
@@ -49,7 +49,7 @@ def words(*numbers: int) -> Data:
 
 
 def data_of(type_: int, bits: int, content: bytes) -> Data:
-    """Returns an item of elements of so many bits, as many as the bytes have."""
+    """Returns an item of elements of this size, as many as the bytes contain."""
     return Data(type_, bits, len(content) * 8 // bits, content)
 
 

@@ -23,7 +23,7 @@ from .waiting import Deadline
 
 
 def text_of(message: Message) -> bytes:
-    """Returns the bytes of a message. MACH_SEND_NO_BUFFER: they are too many."""
+    """Returns the bytes of a message. Raises MACH_SEND_NO_BUFFER if there are too many."""
     text = message.to_bytes()
     if len(text) > LARGEST_MESSAGE:
         raise MACH_SEND_NO_BUFFER(f"{len(text)} bytes, and a message has at most {LARGEST_MESSAGE}")

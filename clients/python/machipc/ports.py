@@ -27,16 +27,16 @@ class PortCalls(Exchange):
     """Mach's calls by names. Each is refused with an exception that has the name of the code."""
 
     def names(self) -> Dict[int, int]:
-        """Returns all names of the space, ascending, with what each stands for."""
+        """Returns all names of the space, ascending, with the type of each."""
         rows = self._rows(wire.NAMES, width=2)
         return dict(zip(rows[::2], rows[1::2]))
 
     def type(self, name: int) -> int:
-        """Returns what a name stands for: bits of `type_of`, and DEAD_NAME_REQUEST."""
+        """Returns the type of a name: bits of `type_of`, and DEAD_NAME_REQUEST."""
         return self._call(wire.TYPE, name, wanted=1)[0]
 
     def rename(self, old: int, new: int) -> None:
-        """Gives what a name stands for another name."""
+        """Moves the rights of a name to another name."""
         self._call(wire.RENAME, old, new)
 
     def _allocate(self, right: int = RECEIVE, name: Optional[int] = None) -> int:
@@ -62,7 +62,7 @@ class PortCalls(Exchange):
         self._call(wire.MOD_REFS, name, right, delta)
 
     def set_qlimit(self, name: int, limit: int) -> None:
-        """Sets how many messages the queue of a port takes."""
+        """Sets the limit of a port's queue."""
         self._call(wire.SET_QLIMIT, name, limit)
 
     def set_mscount(self, name: int, count: int) -> None:

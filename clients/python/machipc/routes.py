@@ -13,16 +13,16 @@ from .constants import FIRST_SPACE
 from .errors import refusal
 from .waiting import Deadline
 
-# What machrun answers where the server can't be reached now, and the longest wait for its answer in seconds.
+# machrun's answer if the server can't be reached now, and the longest wait for an answer in seconds.
 _LATER, _BROKER_PATIENCE = 255, 20.0
 _PASSING = (errno.EAGAIN, errno.ETOOMANYREFS, errno.ENOBUFS)
 
-# A path, or the descriptor by which machrun is asked.
+# The socket's path, or the descriptor for requests to machrun.
 Route = Union[str, int]
 
 
 def open_socket(route: Route, space: int, is_confined: bool) -> socket.socket:
-    """Returns a connection in a space, for good if it is confined there. OSError: there is none now."""
+    """Returns a connection in a space, for good if it is confined there. Raises OSError if there is none now."""
     if isinstance(route, int):
         return _from_broker(route)
     made = socket.socket(socket.AF_UNIX)
@@ -60,7 +60,7 @@ def _read(connection: socket.socket, count: int) -> bytes:
 
 
 def is_broker(descriptor: int) -> bool:
-    """Returns True if machrun can be asked by it. A descriptor may have been closed, and opened as something else."""
+    """Returns True if a descriptor leads to machrun. It may have been closed, and opened as something else."""
     try:
         with socket.socket(fileno=os.dup(descriptor)) as found:
             return found.family == socket.AF_UNIX and found.type == socket.SOCK_SEQPACKET
@@ -69,8 +69,8 @@ def is_broker(descriptor: int) -> bool:
 
 
 def _from_broker(broker: int) -> socket.socket:
-    """Asks by one end of a pair, and receives the connection at the other end: threads and processes that share the
-    broker's descriptor don't get one another's."""
+    """Sends machrun one end of a new pair of sockets, and receives the connection on the other end. So threads and
+    processes that share the descriptor to machrun don't get one another's connections."""
     wait = Deadline(_BROKER_PATIENCE)
     own, sent = socket.socketpair(socket.AF_UNIX, socket.SOCK_SEQPACKET)
     with own:
@@ -86,7 +86,7 @@ def _from_broker(broker: int) -> socket.socket:
 
 
 def _ask(broker: int, sent: socket.socket, wait: Deadline) -> None:
-    """Sends an end of the pair. Where others have filled the queue, there is room in a moment."""
+    """Sends an end of the pair. If others have filled the queue, it tries again a moment later."""
     rights = [(socket.SOL_SOCKET, socket.SCM_RIGHTS, array.array("i", [sent.fileno()]))]
     with socket.socket(fileno=os.dup(broker)) as asked:
         while True:

@@ -1,4 +1,4 @@
-"""A server's loop, as `mach_msg_server` of the C library has it."""
+"""A server's loop, like `mach_msg_server` of the C library."""
 
 from __future__ import annotations
 
@@ -70,7 +70,7 @@ def _refusal(request: Message, fault: Exception) -> Optional[Message]:
 
 
 def _timeout(reply: Message) -> Optional[float]:
-    """Returns 0 for a reply by a send right, whose queue may be full: a client that takes no replies holds nobody up."""
+    """Returns 0 for a reply by a send right, whose queue may be full, so that its client can't block the server."""
     return None if reply.disposition == MOVE_SEND_ONCE else 0
 
 
@@ -87,7 +87,7 @@ class MachServer(_Server[Task]):
 
     A handler that raises a MachError refuses the request: the reply is that of a stub of the Mach Interface Generator, with
     the code, and the request's rights are given back. An id without a handler is refused with MIG_BAD_ID. Another exception is
-    logged and refused with MIG_REMOTE_ERROR, and the server serves on. A handler that returns None has replied itself, or
+    logged and refused with MIG_REMOTE_ERROR, and the server continues. A handler that returns None has replied itself, or
     is going to. The rights of a request that isn't refused belong to its handler.
     """
 

@@ -57,8 +57,8 @@ class Task(PortCalls, Messaging):
     anew, as does the first one in a child of fork.
 
     With `once` each call that changes something has one effect and one answer however often the connection is cut: it
-    is sent as a numbered request, and asked again until it is answered or `patience` seconds are over. `repeats` counts
-    the calls of this Task that were asked again. One program at a time may use a space so; in a child of fork the calls
+    is sent as a numbered request, and repeated until it is answered or `patience` seconds are over. `repeats` counts the
+    calls of this Task that were repeated. Only one program at a time may do so in a space; in a child of fork the calls
     of such a Task raise KERN_FAILURE.
     """
 
@@ -174,7 +174,7 @@ class Task(PortCalls, Messaging):
                     self._give_back(name, item.disposition)
 
     def _give_back(self, name: int, disposition: int) -> None:
-        """Gives back a right that was taken so. One that was to be made is made first, so that its port gets its notice."""
+        """Gives back a right with this disposition. One that was to be made is made first, so that its port gets a notice."""
         if name in (PORT_NULL, PORT_DEAD) or disposition == COPY_SEND:
             return
         with contextlib.suppress(KERN_INVALID_NAME, KERN_INVALID_RIGHT):
@@ -207,9 +207,9 @@ class Task(PortCalls, Messaging):
                 return
 
     def _marked(self) -> Optional[int]:
-        """Puts a dead name that is drawn by chance into the space, and returns it, or None if there is no name left. The end
-        of a space has no numbered request, since the space keeps the number; and after a cut the space's number may be
-        another's. So the space is known by this name then."""
+        """Puts a dead name that is chosen at random into the space. Returns it, or None if no name is left. The end of a space
+        can't be a numbered request, since the space keeps the numbers; and after a cut another space may have the space's
+        number. Then the name tells whether this is still the same space."""
         mark = random.randrange(0x80000000, PORT_DEAD)
         frame = struct.pack("<3I", wire.ALLOCATE_NAME, DEAD_NAME, mark)
         try:

@@ -1,4 +1,4 @@
-"""Time that runs out, and pauses within it."""
+"""Deadlines, and pauses until them."""
 
 from __future__ import annotations
 
@@ -9,7 +9,7 @@ _FIRST_PAUSE, _LONGEST_PAUSE = 0.001, 0.05
 
 
 class Deadline:
-    """A time so many seconds from now; None is never over."""
+    """A deadline this many seconds from now; None is no deadline."""
 
     def __init__(self, seconds: Optional[float]) -> None:
         self.end = None if seconds is None else time.monotonic() + seconds

@@ -31,7 +31,7 @@ def with_length(frame: bytes) -> bytes:
 
 
 def length_of(prefix: bytes) -> int:
-    """Reads the length before a frame. ConnectionError: no frame has it."""
+    """Reads the length before a frame. Raises ConnectionError if no frame has it."""
     length: int = struct.unpack("<I", prefix)[0]
     if not SHORTEST <= length <= LONGEST:
         raise ConnectionError(f"a frame of {length} bytes came, and one has {SHORTEST} to {LONGEST}")

@@ -93,7 +93,7 @@ impl Receiver {
         source.into()
     }
 
-    /// The name of the port or set, with the calls on it.
+    /// Returns the name of the port or set, with the calls on it.
     pub fn port(&self) -> &Port {
         &self.mailbox.source
     }

@@ -22,7 +22,7 @@ async fn adopt(options: Options) -> Task {
     call(move || options.adopt().expect("the tests run under machrun: machrun SOCKET cargo test --offline")).await
 }
 
-/// A time of up to three milliseconds, by a sequence that looks random (xorshift).
+/// Returns a time of up to three milliseconds, pseudorandom (xorshift).
 fn random_time(state: &mut u64) -> Duration {
     *state ^= *state << 13;
     *state ^= *state >> 7;

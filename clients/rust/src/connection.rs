@@ -13,7 +13,7 @@ use crate::{scm, Error, Result};
 
 /// The longest wait for an answer of `machrun`.
 const BROKER_PATIENCE: Duration = Duration::from_secs(20);
-/// What `machrun` answers while it has no connection to give.
+/// The answer of `machrun` while it has no connection to give.
 const LATER: u8 = 255;
 
 /// A way to a server.
@@ -134,7 +134,7 @@ impl Connection {
         self.enter(&Call::new(wire::CONFINE, &[]))
     }
 
-    /// The socket. Its frames are those of the server's FORMATS page.
+    /// Returns the socket. Its frames are those of the server's FORMATS page.
     pub fn into_stream(self) -> UnixStream {
         self.stream
     }

@@ -1,4 +1,4 @@
-//! Time that runs out, and pauses within it.
+//! Deadlines, and pauses until them.
 
 use std::thread;
 use std::time::{Duration, Instant};
@@ -13,7 +13,7 @@ pub(crate) struct Deadline {
 }
 
 impl Deadline {
-    /// A deadline so long from now; `None`, or more than the clock counts, is never over.
+    /// Returns a deadline after this time. `None`, or more time than the clock can count, means no deadline.
     pub(crate) fn after(time: Option<Duration>) -> Deadline {
         Deadline { end: time.and_then(|it| Instant::now().checked_add(it)), pause: FIRST_PAUSE }
     }
@@ -37,7 +37,7 @@ impl Deadline {
     }
 }
 
-/// A time as `mach_msg` has it: whole milliseconds, rounded up.
+/// Returns a time as `mach_msg` has it: whole milliseconds, rounded up.
 pub(crate) fn milliseconds(time: Option<Duration>) -> u32 {
     let time = time.unwrap_or(Duration::ZERO);
     let whole = time.as_millis() + u128::from(time.subsec_nanos() % 1_000_000 != 0);

@@ -8,7 +8,7 @@ use crate::Name;
 /// The result of a call.
 pub type Result<T> = std::result::Result<T, Error>;
 
-/// A table of the codes: variant, number, Mach's name, and what it means.
+/// A table of the codes: variant, number, Mach's name, and meaning.
 macro_rules! errors {
     ($($variant:ident = $code:literal, $name:literal, $meaning:literal;)*) => {
         /// A call that was refused, or that the connection didn't survive.
@@ -35,7 +35,7 @@ macro_rules! errors {
         }
 
         impl Error {
-            /// The error that a code means, as of a reply that says how a request was refused.
+            /// Returns the error of a code, for example of the code in a reply that refuses a request.
             pub fn from_code(code: u32) -> Error {
                 match code {
                     $($code => Error::$variant,)*
@@ -46,7 +46,7 @@ macro_rules! errors {
                 }
             }
 
-            /// Mach's number of the code.
+            /// Returns Mach's number of the code.
             pub fn code(&self) -> u32 {
                 match self {
                     $(Error::$variant => $code,)*
@@ -57,7 +57,7 @@ macro_rules! errors {
                 }
             }
 
-            /// Mach's name of the code, and what it means.
+            /// Returns Mach's name of the code, and its meaning.
             fn words(&self) -> (&'static str, &'static str) {
                 match self {
                     $(Error::$variant => ($name, $meaning),)*
@@ -120,7 +120,7 @@ impl Error {
         matches!(self, Error::MachSendInterrupted(_) | Error::MachRcvInterrupted(_))
     }
 
-    /// The same cut, as a send reports it.
+    /// Returns the error with which a send reports this cut.
     pub(crate) fn of_send(self) -> Error {
         match self {
             Error::MachRcvInterrupted(kind) => Error::MachSendInterrupted(kind),
@@ -128,7 +128,7 @@ impl Error {
         }
     }
 
-    /// The same cut, as a receive reports it.
+    /// Returns the error with which a receive reports this cut.
     pub(crate) fn of_receive(self) -> Error {
         match self {
             Error::MachSendInterrupted(kind) => Error::MachRcvInterrupted(kind),

@@ -52,7 +52,7 @@ pub struct Data<'a> {
 }
 
 impl<'a> Item<'a> {
-    /// The names of an item of rights.
+    /// Returns the names of an item of rights.
     pub fn names(&self) -> impl Iterator<Item = Name> + 'a {
         let names: &'a [u8] = match *self {
             Item::Rights { names, .. } => names,
@@ -61,7 +61,7 @@ impl<'a> Item<'a> {
         names.chunks_exact(4).map(|chunk| Name(wire::word(chunk, 0)))
     }
 
-    /// The data, if the item isn't one of rights.
+    /// Returns the data, if the item isn't one of rights.
     pub fn data(&self) -> Option<Data<'a>> {
         match *self {
             Item::Rights { .. } => None,
@@ -71,12 +71,12 @@ impl<'a> Item<'a> {
 }
 
 impl<'a> Data<'a> {
-    /// The bytes as a text.
+    /// Returns the bytes as a text.
     pub fn text(&self) -> Result<&'a str, Utf8Error> {
         str::from_utf8(self.bytes)
     }
 
-    /// The bytes as numbers of 32 bits.
+    /// Returns the bytes as numbers of 32 bits.
     pub fn words(&self) -> impl Iterator<Item = u32> + 'a {
         self.bytes.chunks_exact(4).map(|chunk| wire::word(chunk, 0))
     }
@@ -131,7 +131,7 @@ pub struct Items<'a> {
 }
 
 impl<'a> Items<'a> {
-    /// The items of these bytes.
+    /// Returns the items of these bytes.
     pub fn new(body: &'a [u8]) -> Items<'a> {
         Items { rest: body }
     }
@@ -171,7 +171,7 @@ impl<'a> Items<'a> {
 impl<'a> Iterator for Items<'a> {
     type Item = Result<Item<'a>, Malformed>;
 
-    /// The next item. Nothing follows one that is malformed.
+    /// Returns the next item. Nothing follows an item that is malformed.
     fn next(&mut self) -> Option<Self::Item> {
         if self.rest.is_empty() {
             return None;

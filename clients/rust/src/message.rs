@@ -52,7 +52,7 @@ pub struct Message<'a> {
 }
 
 impl<'a> Message<'a> {
-    /// A message without a body.
+    /// Returns a message without a body.
     pub fn new(id: i32) -> Message<'a> {
         Message {
             id,
@@ -66,7 +66,7 @@ impl<'a> Message<'a> {
         }
     }
 
-    /// A message whose body is these bytes and no items; a multiple of 4 bytes.
+    /// Returns a message whose body is these bytes, a multiple of 4, and has no items.
     pub fn with_body(id: i32, body: &[u8]) -> Message<'a> {
         Message { body: body.to_vec(), ..Message::new(id) }
     }
@@ -164,7 +164,7 @@ impl<'a> Message<'a> {
         self.has_items = true;
     }
 
-    /// Notes whose name the message gets.
+    /// Records the space that the message's names belong to.
     fn note(&mut self, port: &Port) {
         match &self.of {
             None => self.of = Some(port.task().clone()),
@@ -174,13 +174,13 @@ impl<'a> Message<'a> {
 
     // Sending.
 
-    /// The same message without the bounds of the rights that it borrows, as for a call in another thread. It names them:
-    /// they have to be held until it is sent.
+    /// Returns the same message without the lifetime of the rights that it borrows, for example for a call in another
+    /// thread. The message has only their names: the rights have to be kept until it is sent.
     pub fn detach(self) -> Message<'static> {
         Message { borrowed: PhantomData, ..self }
     }
 
-    /// The message's bytes, as this task sends it.
+    /// Returns the message's bytes, as this task sends it.
     pub(crate) fn encode(&self, by: &Task, to: Name, disposition: Disposition) -> Result<Vec<u8>> {
         if self.is_mixed || self.of.as_ref().map_or(false, |of| !of.is_in_space_of(by)) {
             return Err(Error::MachSendInvalidRight);
@@ -199,7 +199,7 @@ impl<'a> Message<'a> {
         Ok(bytes)
     }
 
-    /// The rights have gone with the message, or may have.
+    /// Forgets the rights, which were or may have been sent with the message.
     pub(crate) fn forget(self) {
         for right in self.held {
             right.forget();
@@ -229,13 +229,13 @@ impl<'a> SendError<'a> {
         self.message.is_some()
     }
 
-    /// Why.
+    /// Returns the reason.
     pub fn error(&self) -> &Error {
         &self.error
     }
 
-    /// The message with its rights, to send it again. `None`: it was sent and the receive after it failed, or a cut leaves
-    /// open whether it was sent. Then its rights are forgotten, and not given back.
+    /// Returns the message with its rights, to send it again. `None` means that it was sent and the receive after it
+    /// failed, or that a cut leaves open whether it was sent. Then its rights are forgotten, and not given back.
     pub fn into_message(self) -> Option<Message<'a>> {
         self.message.map(|message| *message)
     }

@@ -37,7 +37,7 @@ impl ReceiveOptions {
     }
 }
 
-/// Reads what a reply has of a message: its refusal, or its bytes.
+/// Reads the message of a reply: its refusal, or its bytes.
 fn message_of(answer: Answer) -> Result<Vec<u8>> {
     let Answer { code, mut results } = answer;
     let refused = if code == 0 { Error::MigReplyMismatch } else { Error::from_code(code) };
@@ -113,7 +113,8 @@ impl Task {
         }
     }
 
-    /// What an error means for the message. Under a number a cut leaves open whether an attempt went out.
+    /// Returns the error of a send, with the message if that wasn't sent. If the send was numbered, a cut leaves open
+    /// whether it was.
     fn send_error<'a>(&self, error: Error, message: Message<'a>, shown: fn(Error) -> Error) -> SendError<'a> {
         let is_unknown = error.is_cut() && self.is_once();
         if is_of_send(&error) && !is_unknown {

@@ -35,27 +35,27 @@ impl Received {
         Received { bytes, reply, rights }
     }
 
-    /// The id that the sender chose.
+    /// Returns the id that the sender chose.
     pub fn id(&self) -> i32 {
         wire::word(&self.bytes, 20) as i32
     }
 
-    /// The port's number of the message.
+    /// Returns the sequence number of the message at its port.
     pub fn seqno(&self) -> u32 {
         wire::word(&self.bytes, 16)
     }
 
-    /// The port that the message came to.
+    /// Returns the port that the message came to.
     pub fn port(&self) -> Name {
         Name(wire::word(&self.bytes, 12))
     }
 
-    /// The bytes after the header.
+    /// Returns the bytes after the header.
     pub fn body(&self) -> &[u8] {
         &self.bytes[HEADER..]
     }
 
-    /// The items of the body. A body that the sender gave as bytes may be none.
+    /// Returns the items of the body. If the sender gave the body as bytes, they needn't be valid items.
     pub fn items(&self) -> Items<'_> {
         Items::new(self.body())
     }
@@ -70,8 +70,8 @@ impl Received {
         std::mem::take(&mut self.rights)
     }
 
-    /// What the message says, if it has the form of a notice. Anyone who can send to the port can send such a message, so
-    /// give a port for notices to nobody else.
+    /// Returns what the message says, if it has the form of a notice. Anyone who can send to the port can send such a
+    /// message, so give a port for notices to nobody else.
     pub fn notice(&self) -> Option<Notice> {
         let word = self.items().next()?.ok().and_then(|item| item.data()).and_then(|data| data.words().next());
         match (self.id(), word) {
@@ -110,7 +110,8 @@ pub enum Reply {
 }
 
 impl Reply {
-    /// Sends a reply. It waits for no room in the queue, so that no client that takes no replies holds the server up.
+    /// Sends a reply. It doesn't wait for room in the queue, so a client that takes no replies doesn't block the
+    /// server.
     pub fn send(self, message: Message<'_>) -> Result<(), SendError<'_>> {
         match self {
             Reply::SendOnce(right) => right.send(message),

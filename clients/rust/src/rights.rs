@@ -20,17 +20,17 @@ impl Port {
         Port { task, name }
     }
 
-    /// The name.
+    /// Returns the name.
     pub fn name(&self) -> Name {
         self.name
     }
 
-    /// The task in whose space the name is.
+    /// Returns the task in whose space the name is.
     pub fn task(&self) -> &Task {
         &self.task
     }
 
-    /// Which rights the name holds.
+    /// Returns the kinds of rights that the name holds.
     pub fn type_of(&self) -> Result<Type> {
         self.task.type_of(self.name)
     }
@@ -82,7 +82,7 @@ macro_rules! owned {
                 $right { port: Port::new(task.clone(), name), is_held: true }
             }
 
-            /// Leaves the right in the space, and gives its name.
+            /// Leaves the right in the space, and returns its name.
             pub fn forget(mut self) -> Name {
                 self.is_held = false;
                 self.name()
@@ -162,7 +162,7 @@ impl ReceiveRight {
         Ok(SendOnceRight::from_name(task, task.extract_right(*name, Disposition::MakeSendOnce)?))
     }
 
-    /// The state of the port.
+    /// Returns the state of the port.
     pub fn status(&self) -> Result<PortStatus> {
         self.port.task.receive_status(self.port.name)
     }
@@ -205,7 +205,7 @@ impl PortSet {
         self.port.task.move_member(member.name(), Name::NULL)
     }
 
-    /// The names of the members.
+    /// Returns the names of the members.
     pub fn members(&self) -> Result<Vec<Name>> {
         self.port.task.set_status(self.port.name)
     }
@@ -238,7 +238,7 @@ pub enum Right {
 }
 
 impl Right {
-    /// The right that a name of this type is, in a message that was received.
+    /// Returns the right of a name in a received message, by its type there.
     pub(crate) fn received(task: &Task, kind: u16, name: Name) -> Right {
         const RECEIVE: u16 = Disposition::MoveReceive as u16;
         const SEND: u16 = Disposition::MoveSend as u16;
@@ -251,7 +251,7 @@ impl Right {
         }
     }
 
-    /// Leaves the right in the space, and gives its name.
+    /// Leaves the right in the space, and returns its name.
     pub fn forget(self) -> Name {
         match self {
             Right::Null => Name::NULL,
@@ -262,7 +262,7 @@ impl Right {
         }
     }
 
-    /// The receive right, if it is one; otherwise it is given back.
+    /// Returns the receive right, if it is one; otherwise the right is given back.
     pub fn into_receive(self) -> Result<ReceiveRight> {
         match self {
             Right::Receive(right) => Ok(right),
@@ -270,7 +270,7 @@ impl Right {
         }
     }
 
-    /// The send right, if it is one; otherwise it is given back.
+    /// Returns the send right, if it is one; otherwise the right is given back.
     pub fn into_send(self) -> Result<SendRight> {
         match self {
             Right::Send(right) => Ok(right),
@@ -278,7 +278,7 @@ impl Right {
         }
     }
 
-    /// The send-once right, if it is one; otherwise it is given back.
+    /// Returns the send-once right, if it is one; otherwise the right is given back.
     pub fn into_send_once(self) -> Result<SendOnceRight> {
         match self {
             Right::SendOnce(right) => Ok(right),

@@ -1,4 +1,4 @@
-//! What all clones of a task share: the way to the server, connections that are idle, and numbered calls.
+//! The state that all clones of a task share: the way to the server, idle connections, and the numbering of calls.
 
 use std::sync::atomic::{AtomicU64, Ordering};
 use std::sync::{Mutex, MutexGuard, PoisonError};
@@ -9,7 +9,7 @@ use crate::deadline::Deadline;
 use crate::wire::{self, Answer, Call};
 use crate::{Error, Name, Result};
 
-/// Connections beyond so many are closed when their calls are over.
+/// Connections beyond this number are closed after their calls.
 const MOST_IDLE: usize = 16;
 
 #[derive(Debug)]
@@ -30,7 +30,7 @@ pub(crate) struct Shared {
 pub(crate) struct Idle {
     connections: Vec<Connection>,
     is_confined: bool,
-    /// Grows when connections become useless: those in use aren't kept after their calls then.
+    /// Increases whenever the open connections become useless: those in use then aren't kept after their calls.
     generation: u64,
 }
 
@@ -40,7 +40,7 @@ impl Idle {
     }
 }
 
-/// A connection that is taken for one call, and the generation that it is of.
+/// A connection that is taken for one call, and its generation.
 #[derive(Debug)]
 pub(crate) struct Taken {
     pub(crate) connection: Connection,
@@ -58,7 +58,7 @@ impl Shared {
         lock(&self.idle).is_confined
     }
 
-    /// An idle connection, or a new one.
+    /// Returns an idle connection, or a new one.
     pub(crate) fn take(&self) -> Result<Taken> {
         let (found, is_confined, generation) = {
             let mut idle = lock(&self.idle);
@@ -99,7 +99,7 @@ impl Shared {
         }
     }
 
-    /// Makes a call that may be made again, as long as the patience lasts.
+    /// Makes a call that may be repeated, until the patience is over.
     pub(crate) fn exchange_repeated(&self, call: &Call) -> Result<Answer> {
         let mut patience = Deadline::after(self.patience);
         let mut is_again = false;
@@ -126,7 +126,7 @@ impl Shared {
 
     // Numbered calls.
 
-    /// Makes a call as the task's mode wants it.
+    /// Makes a call in the task's mode.
     pub(crate) fn make(&self, call: &Call) -> Result<Answer> {
         match &self.last_request {
             None => self.exchange(call),
@@ -135,7 +135,7 @@ impl Shared {
         }
     }
 
-    /// Makes a call under a request's number, which the server answers in the same way if it is asked again.
+    /// Makes a call as a numbered request, which the server answers in the same way if it is repeated.
     fn ask(&self, request: u32, call: &Call) -> Result<Answer> {
         let results = self.exchange_repeated(&call.numbered(request))?.ok()?;
         Answer::of_numbered(call, request, results)
@@ -151,8 +151,8 @@ impl Shared {
         }
     }
 
-    /// Finds the number that the space used last. `KernInvalidArgument`: the server has no numbered requests, or the
-    /// space has used all numbers.
+    /// Finds the number that the space used last. `KernInvalidArgument` means that the server has no numbered requests,
+    /// or that the space has used all numbers.
     fn find_last_request(&self) -> Result<u32> {
         if !self.is_new(u32::MAX)? {
             return Err(Error::KernInvalidArgument);
@@ -172,8 +172,8 @@ impl Shared {
         Ok(used)
     }
 
-    /// The number from which a task counts on. The next one is left to a request that a program before this one may have
-    /// on its way to the server yet.
+    /// Returns the number after which a task's requests begin. One number is skipped, since a program before this one
+    /// may have a request with it on its way to the server.
     pub(crate) fn first_number(&self) -> Result<u32> {
         Ok(self.find_last_request()? + 1)
     }

@@ -13,7 +13,7 @@ use crate::shared::{Idle, Shared};
 use crate::wire::{self, Call};
 use crate::{scm, Disposition, Error, Kind, Name, PortStatus, Request, Result, Type, FIRST_SPACE};
 
-/// How a task is made. [`Task::connect`] and [`Task::adopt`] take the usual ones.
+/// The options of a task. [`Task::connect`] and [`Task::adopt`] use the defaults.
 ///
 /// ```
 /// # fn main() -> Result<(), machipc::AdoptError> {
@@ -37,7 +37,7 @@ impl Default for Options {
 }
 
 impl Options {
-    /// The first space, calls without numbers, and a patience of 30 seconds.
+    /// Returns the defaults: the first space, calls without numbers, and a patience of 30 seconds.
     pub fn new() -> Options {
         Options::default()
     }
@@ -49,14 +49,14 @@ impl Options {
     }
 
     /// Numbers the calls that change something: each has one effect and one answer however often the connection is cut.
-    /// One program at a time may use a space so; if another one does, a call fails with `MachRcvInterrupted` of
+    /// Only one program at a time may do so in a space; if another one does, a call fails with `MachRcvInterrupted` of
     /// `ErrorKind::AlreadyExists`.
     pub fn once(mut self, is_once: bool) -> Options {
         self.is_once = is_once;
         self
     }
 
-    /// The time for which a numbered call is asked again after a cut; `None` is forever.
+    /// Sets the time for which a numbered call is repeated after a cut; `None` is forever.
     pub fn patience(mut self, patience: Option<Duration>) -> Options {
         self.patience = patience;
         self
@@ -171,8 +171,8 @@ impl Task {
         Options::new().adopt()
     }
 
-    /// Another task in another space, with the same options. `KernInvalidTask`: no such space; `KernNoAccess`: this task
-    /// is confined to its own.
+    /// Returns another task in another space, with the same options. `KernInvalidTask`: no such space; `KernNoAccess`:
+    /// this task is confined to its own.
     pub fn in_space(&self, space: u32) -> Result<Task> {
         let options = Options { space, is_once: self.is_once(), patience: self.shared.patience };
         match &self.shared.route {
@@ -181,17 +181,17 @@ impl Task {
         }
     }
 
-    /// The number of the space.
+    /// Returns the number of the space.
     pub fn space(&self) -> u32 {
         self.shared.space
     }
 
-    /// The first right that the task was given, if it was adopted. It stays when the value is dropped.
+    /// Returns the first right that the task was given, if it was adopted. The right stays when the value is dropped.
     pub fn bootstrap(&self) -> Port {
         self.port(self.shared.bootstrap)
     }
 
-    /// Which start of the adopted task this is, from 1.
+    /// Returns the number of the adopted task's start, from 1.
     pub fn start(&self) -> u32 {
         self.shared.start
     }
@@ -201,12 +201,12 @@ impl Task {
         self.shared.last_request.is_some()
     }
 
-    /// The time for which a numbered call is asked again after a cut; `None` is forever.
+    /// Returns the time for which a numbered call is repeated after a cut; `None` is forever.
     pub fn patience(&self) -> Option<Duration> {
         self.shared.patience
     }
 
-    /// The calls that were asked again after a cut and then answered.
+    /// Returns the number of calls that were repeated after a cut and then answered.
     pub fn repeats(&self) -> u64 {
         self.shared.repeats.load(Ordering::Relaxed)
     }
@@ -242,7 +242,7 @@ impl Task {
         self.words::<0>(number, arguments).map(drop)
     }
 
-    /// Makes a call that answers a count and so many rows.
+    /// Makes a call that is answered with a count and that many rows.
     fn rows(&self, number: u32, arguments: &[u32], width: usize) -> Result<Vec<u32>> {
         let mut results = self.results(number, arguments)?;
         let is_whole = !results.is_empty() && results.len() - 1 == results[0] as usize * width;
@@ -255,7 +255,7 @@ impl Task {
 
     // Making names, and what they are.
 
-    /// Makes a port, and gives its receive right.
+    /// Makes a port, and returns its receive right.
     pub fn allocate(&self) -> Result<ReceiveRight> {
         let [name] = self.words(wire::ALLOCATE, &[Kind::Receive as u32])?;
         Ok(ReceiveRight::from_name(self, Name(name)))
@@ -272,18 +272,19 @@ impl Task {
         self.done(wire::ALLOCATE_NAME, &[kind as u32, name.0])
     }
 
-    /// A name of the space, with the calls on it. It owns nothing: the rights of the name stay when it is dropped.
+    /// Returns a name of the space, with the calls on it. It owns nothing: the rights of the name stay when it is
+    /// dropped.
     pub fn port(&self, name: Name) -> Port {
         Port::new(self.clone(), name)
     }
 
-    /// All names of the space, with their rights (`mach_port_names`).
+    /// Returns all names of the space, with their rights (`mach_port_names`).
     pub fn names(&self) -> Result<BTreeMap<Name, Type>> {
         let rows = self.rows(wire::NAMES, &[], 2)?;
         Ok(rows.chunks_exact(2).map(|row| (Name(row[0]), Type(row[1]))).collect())
     }
 
-    /// Which rights a name holds (`mach_port_type`).
+    /// Returns the kinds of rights that a name holds (`mach_port_type`).
     pub fn type_of(&self, name: Name) -> Result<Type> {
         self.words(wire::TYPE, &[name.0]).map(|[bits]| Type(bits))
     }
@@ -316,7 +317,7 @@ impl Task {
 
     // References and rights.
 
-    /// The references that a name has of a right (`mach_port_get_refs`).
+    /// Returns the references that a name has of a right (`mach_port_get_refs`).
     pub fn get_refs(&self, name: Name, kind: Kind) -> Result<u32> {
         self.words(wire::GET_REFS, &[name.0, kind as u32]).map(|[count]| count)
     }
@@ -326,19 +327,19 @@ impl Task {
         self.done(wire::MOD_REFS, &[name.0, kind as u32, delta as u32])
     }
 
-    /// Takes a right from a name and gives it another one in the same space (`mach_port_insert_right`).
+    /// Takes a right from a name and puts it under another one in the same space (`mach_port_insert_right`).
     pub fn insert_right(&self, name: Name, right: Name, disposition: Disposition) -> Result<()> {
         self.done(wire::INSERT_RIGHT, &[name.0, right.0, disposition as u32])
     }
 
-    /// Takes a right from a name, under a name that the server chooses (`mach_port_extract_right`).
+    /// Takes a right from a name, and puts it under a name that the server chooses (`mach_port_extract_right`).
     pub fn extract_right(&self, name: Name, disposition: Disposition) -> Result<Name> {
         self.words(wire::EXTRACT_RIGHT, &[name.0, disposition as u32]).map(|[name, _]| Name(name))
     }
 
     // Ports and sets.
 
-    /// The state of a receive right's port (`mach_port_get_receive_status`).
+    /// Returns the state of a receive right's port (`mach_port_get_receive_status`).
     pub fn receive_status(&self, name: Name) -> Result<PortStatus> {
         let found: [u32; 9] = self.words(wire::GET_RECEIVE_STATUS, &[name.0])?;
         Ok(PortStatus {
@@ -369,7 +370,7 @@ impl Task {
         self.done(wire::SET_SEQNO, &[name.0, seqno])
     }
 
-    /// The members of a set (`mach_port_get_set_status`).
+    /// Returns the members of a set (`mach_port_get_set_status`).
     pub fn set_status(&self, name: Name) -> Result<Vec<Name>> {
         Ok(self.rows(wire::GET_SET_STATUS, &[name.0], 1)?.into_iter().map(Name).collect())
     }
@@ -379,8 +380,8 @@ impl Task {
         self.done(wire::MOVE_MEMBER, &[member.0, set.0])
     }
 
-    /// Asks for a notice by the right `notify`, and gives the send-once right of the request before, or [`Name::NULL`]
-    /// (`mach_port_request_notification`).
+    /// Asks for a notice by the right `notify`, and returns the send-once right of the request before, or
+    /// [`Name::NULL`] (`mach_port_request_notification`).
     pub fn request_notification(
         &self,
         name: Name,
@@ -395,15 +396,17 @@ impl Task {
 
     // Spaces.
 
-    /// Makes a space that holds one right: its number, and the right's name there. The caller stays where it is.
+    /// Makes a space that holds one right, and returns its number and the right's name there. The caller stays where it
+    /// is.
     pub fn space_create(&self, name: Name, disposition: Disposition) -> Result<(u32, Name)> {
         self.words(wire::SPACE_CREATE, &[name.0, disposition as u32]).map(|[space, name]| (space, Name(name)))
     }
 
     /// Gives all rights of the space back and removes it. Every later call there is refused with `KernInvalidTask`.
     ///
-    /// With [`Options::once`] it is made once too: a space's end has no number, since the space is where numbers are kept,
-    /// so a name drawn by chance marks the space first, and is missing after a cut if the space was destroyed.
+    /// With [`Options::once`] it is made once too. The end of a space can't be a numbered request, since the space
+    /// keeps the numbers, so a name that is chosen at random marks the space first. If that name is missing after a
+    /// cut, the space was destroyed.
     pub fn space_destroy(&self) -> Result<()> {
         let mark = match self.shared.last_request {
             Some(_) if self.space() != FIRST_SPACE => self.mark()?,
@@ -422,7 +425,7 @@ impl Task {
         }
     }
 
-    /// Puts a dead name that is drawn by chance into the space, or gives `None` if the space has no name left.
+    /// Puts a dead name that is chosen at random into the space. Returns it, or `None` if the space has no name left.
     fn mark(&self) -> Result<Option<Name>> {
         let mark = Name(chance_name());
         let call = Call::new(wire::ALLOCATE_NAME, &[Kind::DeadName as u32, mark.0]);
@@ -434,7 +437,7 @@ impl Task {
     }
 }
 
-/// A name above those that the server chooses, by the seed that the standard library draws for its tables.
+/// Returns a name above those that the server chooses, from the random seed of the standard library's tables.
 fn chance_name() -> u32 {
     use std::collections::hash_map::RandomState;
     use std::hash::{BuildHasher, Hasher};

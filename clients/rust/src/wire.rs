@@ -46,7 +46,7 @@ pub(crate) struct Call {
 }
 
 impl Call {
-    /// A call of words.
+    /// Returns a call whose arguments are words.
     pub(crate) fn new(number: u32, arguments: &[u32]) -> Call {
         let mut frame = vec![0; 4];
         for word in std::iter::once(&number).chain(arguments) {
@@ -55,14 +55,14 @@ impl Call {
         Call { frame }.measured()
     }
 
-    /// `mach_msg` with the message's bytes, which only a send has.
+    /// Returns a call of `mach_msg` with the message's bytes, which only a send has.
     pub(crate) fn mach_msg(option: u32, limit: u32, name: u32, timeout: u32, message: &[u8]) -> Call {
         let mut call = Call::new(MACH_MSG, &[option, limit, name, timeout]);
         call.frame.extend_from_slice(message);
         call.measured()
     }
 
-    /// This call under a request's number.
+    /// Returns this call as a numbered request.
     pub(crate) fn numbered(&self, request: u32) -> Call {
         let mut call = Call::new(NUMBERED, &[request]);
         call.frame.extend_from_slice(&self.frame[4..]);
@@ -90,7 +90,7 @@ impl Call {
     }
 }
 
-/// What a call is answered with.
+/// The answer to a call.
 #[derive(Debug)]
 pub(crate) struct Answer {
     pub(crate) code: u32,
@@ -108,7 +108,7 @@ impl Answer {
         Ok(Answer { code, results: reply })
     }
 
-    /// Reads the results of number 22: the answer to the call in it.
+    /// Reads the results of call 22, which are the answer to the call in it.
     pub(crate) fn of_numbered(call: &Call, request: u32, mut results: Vec<u8>) -> Result<Answer> {
         if results.len() < 12 || word(&results, 0) != request || word(&results, 4) != call.number() {
             return Err(Error::MigReplyMismatch);
@@ -118,7 +118,7 @@ impl Answer {
         Ok(Answer { code, results })
     }
 
-    /// The results, if the code is 0.
+    /// Returns the results, if the code is 0.
     pub(crate) fn ok(self) -> Result<Vec<u8>> {
         match self.code {
             0 => Ok(self.results),
@@ -140,12 +140,12 @@ pub(crate) fn read_frame(stream: &mut impl Read) -> io::Result<Vec<u8>> {
     Ok(content)
 }
 
-/// The word at a place, which has to be within the bytes.
+/// Returns the word at a place, which has to be within the bytes.
 pub(crate) fn word(bytes: &[u8], at: usize) -> u32 {
     u32::from_le_bytes([bytes[at], bytes[at + 1], bytes[at + 2], bytes[at + 3]])
 }
 
-/// All words of bytes that hold whole ones.
+/// Returns the words of bytes, whose number has to be a multiple of 4.
 pub(crate) fn words(bytes: &[u8]) -> Vec<u32> {
     bytes.chunks_exact(4).map(|chunk| word(chunk, 0)).collect()
 }

@@ -1,4 +1,4 @@
-//! A server that ends connections, or answers what is no reply.
+//! Tests with a server that closes connections, or sends invalid replies.
 
 use std::io::{ErrorKind, Read, Write};
 use std::os::unix::net::UnixListener;
@@ -9,7 +9,7 @@ use machipc::{Error, Message, Task};
 
 static NUMBER: AtomicU32 = AtomicU32::new(0);
 
-/// What a call fails with on a server that gives this reply to each first frame of a connection.
+/// Returns the error of a call on a server that gives this reply to the first frame of each connection.
 fn failed<T: std::fmt::Debug>(reply: &[u8], call: impl FnOnce(&Task) -> Result<T, Error>) -> Error {
     let number = NUMBER.fetch_add(1, Ordering::Relaxed);
     let path = std::env::temp_dir().join(format!("machipc-{}-{number}", std::process::id()));

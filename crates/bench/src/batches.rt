@@ -1,5 +1,5 @@
-//! What batches cost: records stored per second in batches of each size, alongside plain writes of as many bytes and
-//! alongside pairs of syncs.
+//! The cost of batches: records stored per second with each size of batch, next to plain writes of as many bytes and to
+//! pairs of syncs.
 
 use crate::Fault;
 use crate::context::{Context, Folder, hundredths, per_second};
@@ -12,15 +12,15 @@ use crate::ways::HERE;
 use disk::Disk;
 use std::alloc::Global;
 
-/// How many records a batch has, and how many batches are stored in a turn, with as many plain writes and as many pairs
+/// The number of records in a batch, and the number of batches in a turn, with as many plain writes and as many pairs
 /// of syncs.
 static SIZES: [(u64, u64); 5] = [(1, 16), (16, 16), (64, 16), (256, 8), (4_096, 1)];
 
-/// How many turns there are; the shortest time of each measure counts.
+/// Number of turns. The shortest time of each measurement counts.
 const TURNS: u32 = 14;
 
-/// A kind of batch: its calls, made in turn, and what is made before the first turn and after each one, which isn't
-/// measured.
+/// A kind of batch: the lines of its calls, which are made in rotation, and the lines that are made before the first
+/// turn and after each turn, and aren't measured.
 #[derive(Drop)]
 struct Kind {
     steps: Vec<CostStep>,
@@ -28,7 +28,7 @@ struct Kind {
     beyond: Vec<CostStep>,
 }
 
-/// Names are allocated in two spaces, since one has at most 4,096; they go with their space.
+/// Names are allocated in two spaces, because one has at most 4,096. They are removed with their space.
 static ALLOCATE: [Line<'static>; 2] = [
     (2, "allocate dead_name", 0, 1),
     (3, "allocate dead_name", 0, 1),
@@ -45,7 +45,8 @@ static NEW_SPACES: [Line<'static>; 3] = [
     (HERE, "space_create 0x100 make_send", 0, 2),
 ];
 
-/// Messages go to a port by send-once rights, which no limit of its queue stops; they go with their port.
+/// Messages are sent to a port by send-once rights, to which the limit of its queue doesn't apply. They are removed
+/// with their port.
 static ONE_PORT: [Line<'static>; 1] = [(HERE, "allocate receive", 0, 1)];
 
 static NEW_PORT: [Line<'static>; 2] = [
@@ -53,8 +54,8 @@ static NEW_PORT: [Line<'static>; 2] = [
     (HERE, "allocate receive", 0, 1),
 ];
 
-/// The nanoseconds that batches take with their calls and replies, and just to be stored; plain writes, each where a
-/// batch would be stored and then back to back; and pairs.
+/// Nanoseconds for batches with their calls and replies, and for storing them alone; for plain writes, each in place of
+/// a batch, and then back to back; and for pairs of syncs.
 #[derive(Clone, Copy)]
 struct Times {
     whole: u64,
@@ -72,7 +73,7 @@ const LONGEST: Times = Times {
     pairs: u64::MAX,
 };
 
-/// The kind of these lines.
+/// Returns the kind of these lines.
 fn kind_of(
     alloc: Global,
     calls: &[Line<'_>],
@@ -86,7 +87,7 @@ fn kind_of(
     })
 }
 
-/// Makes `count` calls, in turn, and returns the last one's ticket.
+/// Makes `count` calls in rotation, and returns the last one's ticket.
 fn submit_all<C: CostCore>(core: &mut C, steps: &[CostStep], count: u64) -> Result<u64, Fault> {
     let mut last = 0;
     for index in 0..count {
@@ -101,7 +102,7 @@ fn submit_all<C: CostCore>(core: &mut C, steps: &[CostStep], count: u64) -> Resu
     Ok(last)
 }
 
-/// Asks for `count` replies up to a ticket's, each of which has to be of a call that was done.
+/// Asks for the `count` replies up to a ticket's. Each call must have been done.
 fn answer_all<C: CostCore>(core: &mut C, last: u64, count: u64) -> Result<(), Fault> {
     let beyond = last.saturating_add(1);
     for ticket in beyond.saturating_sub(count)..beyond {
@@ -112,7 +113,7 @@ fn answer_all<C: CostCore>(core: &mut C, last: u64, count: u64) -> Result<(), Fa
     Ok(())
 }
 
-/// Makes `count` calls and stores them as one batch. Returns how long that takes, and how long just the storing takes.
+/// Makes `count` calls and stores them as one batch. Returns the time for all of that, and the time for storing alone.
 fn time_batch<C: CostCore>(
     context: &Context<'_>,
     core: &mut C,
@@ -128,7 +129,7 @@ fn time_batch<C: CostCore>(
     Ok((context.since(start), stored))
 }
 
-/// Makes batches. Returns how long they take, and how long just their storing takes.
+/// Makes batches. Returns the time for all of that, and the time for storing alone.
 fn time_batches<C: CostCore>(
     context: &Context<'_>,
     core: &mut C,
@@ -144,9 +145,9 @@ fn time_batches<C: CostCore>(
     Ok((whole, stored))
 }
 
-/// Makes as many calls as such batches have, and a plain write where each batch would be stored, which is stored after
-/// that. Returns how long the writes take: what comes before a write counts too, so a batch's storing and these writes
-/// come after the same.
+/// Makes as many calls as such batches have, with a plain write in place of each batch, and stores them after that.
+/// Returns the time for the writes. Each write follows the same calls as the storing of a batch, because they affect
+/// its time.
 fn time_instead<C: CostCore>(
     context: &Context<'_>,
     core: &mut C,
@@ -165,7 +166,8 @@ fn time_instead<C: CostCore>(
     Ok(written)
 }
 
-/// One turn, whose times count if they are shorter: batches, plain writes of this many bytes, and pairs of syncs.
+/// Measures one turn: batches, plain writes of this many bytes, and pairs of syncs. Shorter times replace the former
+/// ones.
 fn time_turn<C: CostCore + Maker>(
     context: &Context<'_>,
     core: &mut C,
@@ -189,13 +191,13 @@ fn time_turn<C: CostCore + Maker>(
     })
 }
 
-/// Removes what a turn made, and its records, of which a journal holds at most 65,536.
+/// Removes the results of a turn, and its records, of which a journal holds at most 65,536.
 fn end_turn<C: CostCore + Maker>(core: &mut C, kind: &Kind) -> Result<(), Fault> {
     make_steps(core, &kind.beyond)?;
     make_checkpoint(core)
 }
 
-/// The shortest times of all turns.
+/// Returns the shortest times of all turns.
 fn time_turns<C: CostCore + Maker>(
     context: &Context<'_>,
     core: &mut C,
@@ -212,7 +214,7 @@ fn time_turns<C: CostCore + Maker>(
     Ok(least)
 }
 
-/// How many bytes a batch of this size adds to the segment.
+/// Returns the number of bytes that a batch of this size adds to the segment.
 fn bytes_of<C: CostCore + Maker>(
     context: &Context<'_>,
     core: &mut C,
@@ -248,7 +250,7 @@ fn print_times(context: &Context<'_>, label: &str, size: (u64, u64), bytes: u64,
     context.print_row(label, &figures, &ratios);
 }
 
-/// Measures batches of a kind and a size: how many bytes each has, and the shortest times.
+/// Measures batches of a kind and a size: the bytes of each, and the shortest times.
 fn measure<C: CostCore + Maker>(
     context: &Context<'_>,
     core: &mut C,
@@ -262,7 +264,7 @@ fn measure<C: CostCore + Maker>(
     Ok((bytes, times))
 }
 
-/// Measures them on a disk that has no store yet.
+/// Measures batches on a disk that has no store yet.
 fn measure_on<D: Disk + Drop>(
     context: &Context<'_>,
     disk: Result<D, Fault>,
@@ -281,7 +283,7 @@ fn measure_on<D: Disk + Drop>(
     measured
 }
 
-/// Measures a kind of batch in each size, each on a new store, and prints them.
+/// Measures a kind of batch in each size, each on a new store, and prints the results.
 fn print_kind<F: Folder>(
     context: &Context<'_>,
     folder: &F,
@@ -296,19 +298,19 @@ fn print_kind<F: Folder>(
     Ok(())
 }
 
-/// The batches of names that are allocated.
+/// Returns the kind of batch that allocates names.
 fn allocations(alloc: Global) -> Result<Kind, Fault> {
     kind_of(alloc, &ALLOCATE, &TWO_SPACES, &NEW_SPACES)
 }
 
-/// The batches of messages of 1 KiB.
+/// Returns the kind of batch that sends messages of 1 KiB.
 fn messages(alloc: Global) -> Result<Kind, Fault> {
     let send = send_line(alloc, "send make_send_once 0x100 id 7", 1_024, 0)?;
     let calls = [(HERE, send.as_str(), 0, 2)];
     kind_of(alloc, &calls, &ONE_PORT, &NEW_PORT)
 }
 
-/// Prints what batches of both kinds and of each size cost.
+/// Prints the cost of batches of both kinds and each size.
 pub(crate) fn print_batches<F: Folder>(
     context: &Context<'_>,
     folder: &F,

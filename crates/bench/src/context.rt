@@ -1,5 +1,5 @@
-//! What each measure has at hand: the clock, a folder that is free for it, the memory of this process, and rows of
-//! figures.
+//! The environment of each measurement: the clock, an unused folder, the memory of this process, and the printing of
+//! rows.
 
 use crate::Fault;
 use disk::{Disk, FileDisk, HostFolder};
@@ -8,7 +8,8 @@ use std::cell::Cell;
 use std::fs::{self, File};
 use std::time::Instant;
 
-/// The runtime, its allocator, a folder, how many files and folders were made there, and when the program began.
+/// The runtime, its allocator, a folder, the number of files and folders that were created there, and the time when the
+/// program began.
 #[derive(Drop)]
 pub(crate) struct Context<'a> {
     rt: &'a HostRuntime,
@@ -30,7 +31,7 @@ impl<'a> Context<'a> {
         })
     }
 
-    /// The nanoseconds since the program began; 0 if the clock can't be read.
+    /// Returns the nanoseconds since the program began, or 0 if the clock can't be read.
     pub(crate) fn nanos(&self) -> u64 {
         match self.start.elapsed(self.rt) {
             Ok(duration) => u64::try_from(duration.as_nanos()).unwrap_or(u64::MAX),
@@ -38,12 +39,12 @@ impl<'a> Context<'a> {
         }
     }
 
-    /// The nanoseconds since then.
+    /// Returns the nanoseconds since then.
     pub(crate) fn since(&self, start: u64) -> u64 {
         self.nanos().saturating_sub(start)
     }
 
-    /// A path in the folder that wasn't given before.
+    /// Returns an unused path in the folder.
     fn new_path(&self) -> Result<String, Fault> {
         let (folder, number) = (self.folder, self.made.get());
         self.made.set(number.saturating_add(1));
@@ -53,13 +54,13 @@ impl<'a> Context<'a> {
         }
     }
 
-    /// A new file.
+    /// Creates a new file.
     pub(crate) fn new_file(&self) -> Result<File, Fault> {
         let path = self.new_path()?;
         Ok(File::create(self.rt, path.as_str())?)
     }
 
-    /// A figure of this process in kilobytes, as the system gives it after a label; 0 if it doesn't.
+    /// Returns a number of this process in kilobytes from the system's label for it, or 0 if there is none.
     pub(crate) fn memory(&self, label: &str) -> u64 {
         match fs::read_to_string(self.rt, "/proc/self/status") {
             Ok(status) => figure_after(status.as_str(), label),
@@ -67,7 +68,7 @@ impl<'a> Context<'a> {
         }
     }
 
-    /// Prints a label, figures, and then ratios, which are hundredths.
+    /// Prints a label, numbers, and then ratios, which are given in hundredths.
     pub(crate) fn print_row(&self, label: &str, figures: &[u64], ratios: &[u64]) {
         let _ = print!(self.rt; "{label}:");
         for figure in figures {
@@ -81,12 +82,11 @@ impl<'a> Context<'a> {
     }
 }
 
-/// Where stores are made on files. Measures are generic in such a folder, so that the proof of each carries nothing of
-/// files.
+/// A folder for stores on files. Measurements are generic in it, so that their proofs carry nothing about files.
 pub(crate) trait Folder {
     type Files: Disk + Drop;
 
-    /// The files of a new folder.
+    /// Creates the files of a store in a new folder.
     fn new_files(&self) -> Result<Self::Files, Fault>;
 }
 
@@ -103,7 +103,7 @@ impl<'a> Folder for Context<'a> {
     }
 }
 
-/// The number after the label that a line begins with; 0 if there is none.
+/// Returns the number after the label with which a line begins, or 0 if there is none.
 fn figure_after(encoding: &str, label: &str) -> u64 {
     for line in encoding.lines() {
         if let Some(rest) = line.strip_prefix(label) {
@@ -113,7 +113,7 @@ fn figure_after(encoding: &str, label: &str) -> u64 {
     0
 }
 
-/// The first word of a line, as a number.
+/// Returns the first word of a line, as a number.
 fn first_number(line: &str) -> u64 {
     match line.split_whitespace().next() {
         Some(word) => word.parse().unwrap_or(0),
@@ -121,12 +121,12 @@ fn first_number(line: &str) -> u64 {
     }
 }
 
-/// A figure as hundredths of another one.
+/// Returns the ratio of two numbers in hundredths.
 pub(crate) fn hundredths(figure: u64, of: u64) -> u64 {
     figure.saturating_mul(100).checked_div(of).unwrap_or(0)
 }
 
-/// How many per second, given a count and its nanoseconds.
+/// Returns the rate per second of a count in these nanoseconds.
 pub(crate) fn per_second(count: u64, nanos: u64) -> u64 {
     count
         .saturating_mul(1_000_000_000)

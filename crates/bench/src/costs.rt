@@ -1,4 +1,4 @@
-//! What each kind of call costs as the state around it grows: ports, names of the same space, spaces and messages.
+//! The cost of each kind of call as the state grows: with ports, names of the same space, spaces and messages.
 
 use crate::Fault;
 use crate::context::Context;
@@ -103,7 +103,7 @@ static ROWS: [CostLine<'static>; 10] = [
         rounds: 100,
         is_done: true,
     },
-    // Calls that undo what was done, or change nothing.
+    // Calls that undo an earlier call, or change nothing.
     CostLine {
         label: "",
         parts: &[
@@ -213,14 +213,14 @@ static ROWS: [CostLine<'static>; 10] = [
         rounds: 100,
         is_done: false,
     },
-    // This grows with the names.
+    // The cost of this call grows with the number of names.
     CostLine {
         label: "",
         parts: &[("names of the space", HERE, "names", 0, 1)],
         rounds: 20,
         is_done: true,
     },
-    // A row of its own, since a walk over 4,096 names leaves little else in the processor's cache.
+    // A row of its own, because a walk over 4,096 names displaces almost everything else from the processor's cache.
     CostLine {
         label: "",
         parts: &[("names of 2 names", CLIENT, "names", 0, 10)],
@@ -229,7 +229,7 @@ static ROWS: [CostLine<'static>; 10] = [
     },
 ];
 
-/// Prints what the calls of each row cost.
+/// Prints the cost of the calls in each row.
 pub(crate) fn print_costs<M: Machine>(
     context: &Context<'_>,
     machines: &mut [Placed<M>],

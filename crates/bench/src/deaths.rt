@@ -1,12 +1,12 @@
-//! What the death of a port costs, by the names that hold rights to it, with a notice for each or with none.
+//! The cost of a port's death, by the number of names with rights to it, with a notice for each or with none.
 
 use crate::Fault;
 use crate::context::Context;
 use crate::turns::{CostLine, Machine, Placed, print_row};
 use crate::ways::HERE;
 
-/// Deaths that are measured: how many holders there are, each a name with a send-once right; for how many of these a
-/// notice is sent to another port; and how many deaths a turn has.
+/// The deaths that are measured: the number of holders, each a name with a send-once right; the number of them whose
+/// death sends a notice to another port; and the number of deaths in a turn.
 static DEATHS: [(&str, u32, u32, u64); 6] = [
     ("1 holder", 1, 0, 100),
     ("10 holders", 10, 0, 50),
@@ -16,7 +16,7 @@ static DEATHS: [(&str, u32, u32, u64); 6] = [
     ("1,000 holders with notices", 1_000, 1_000, 1),
 ];
 
-/// Measures a death, and prints it.
+/// Measures a death, and prints the result.
 fn print_death<M: Machine>(
     context: &Context<'_>,
     machines: &mut [Placed<M>],
@@ -52,7 +52,7 @@ fn print_death<M: Machine>(
     print_row(context, machines, &row, 1)
 }
 
-/// Prints what deaths cost.
+/// Prints the cost of deaths.
 pub(crate) fn print_deaths<M: Machine>(
     context: &Context<'_>,
     machines: &mut [Placed<M>],

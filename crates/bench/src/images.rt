@@ -1,4 +1,4 @@
-//! What the steps of a checkpoint take in memory, and opening a store from its image, by what the state holds.
+//! The time of a checkpoint's steps in memory, and of opening a store from its image, by the contents of the state.
 
 use crate::Fault;
 use crate::context::Context;
@@ -9,8 +9,7 @@ use crate::states::{LEAST, Shape, make_state};
 use disk::{Disk, Slot};
 use plain_disk::PlainDisk;
 
-/// How many checkpoints are made of a state. The shortest time of each part counts, since other work can only make one
-/// longer.
+/// Number of checkpoints of a state. The shortest time of each part counts, because other work can only make it longer.
 const CHECKPOINTS: u32 = 3;
 
 /// The states that are measured.
@@ -74,7 +73,7 @@ static STATES: [(&str, Shape); 8] = [
     ),
 ];
 
-/// How long the parts of a checkpoint take, in nanoseconds, and how many pieces its image has.
+/// The times of a checkpoint's parts in nanoseconds, and the number of pieces in its image.
 #[derive(Clone, Copy)]
 struct Parts {
     cut: u64,
@@ -92,7 +91,7 @@ const LONGEST: Parts = Parts {
     pieces: 0,
 };
 
-/// How long work takes, which has to be done.
+/// Returns the time for a piece of work, which must be done.
 fn time_work<C: CostCore>(context: &Context<'_>, core: &mut C, work: Work) -> Result<u64, Fault> {
     let start = context.nanos();
     if !core.work(work) {
@@ -101,7 +100,7 @@ fn time_work<C: CostCore>(context: &Context<'_>, core: &mut C, work: Work) -> Re
     Ok(context.since(start))
 }
 
-/// Writes the image's pieces: how many they are, and how long the slowest one takes.
+/// Writes the image's pieces. Returns their number and the time for the slowest one.
 fn time_pieces<C: CostCore>(context: &Context<'_>, core: &mut C) -> (u64, u64) {
     let (mut pieces, mut slowest) = (0u64, 0u64);
     for _ in 0..u64::MAX {
@@ -115,7 +114,7 @@ fn time_pieces<C: CostCore>(context: &Context<'_>, core: &mut C) -> (u64, u64) {
     (pieces, slowest)
 }
 
-/// Makes a whole checkpoint, whose times count if they are shorter.
+/// Makes a whole checkpoint. Shorter times replace the former ones.
 fn time_checkpoint<C: CostCore>(
     context: &Context<'_>,
     core: &mut C,
@@ -150,7 +149,7 @@ fn time_parts<C: CostCore + Maker>(
     Ok(least)
 }
 
-/// Makes a state in a new store, with its checkpoints, and returns what they took, and the disk.
+/// Makes a state in a new store, with its checkpoints, and returns their times and the disk.
 fn make_store<D: Disk + Drop>(
     context: &Context<'_>,
     disk: D,
@@ -162,7 +161,7 @@ fn make_store<D: Disk + Drop>(
     Ok((parts?, disk))
 }
 
-/// Measures a state in a new store on this disk, and prints it.
+/// Measures a state in a new store on this disk, and prints the result.
 fn print_state<D: Disk + Drop>(
     context: &Context<'_>,
     disk: D,
@@ -185,7 +184,7 @@ fn print_state<D: Disk + Drop>(
     Ok(())
 }
 
-/// Prints what checkpoints of states cost, and openings.
+/// Prints the cost of checkpoints and openings.
 pub(crate) fn print_images(context: &Context<'_>) -> Result<(), Fault> {
     context.print_row(
         "nanoseconds of a checkpoint in memory: the cut, the image's closing, its slowest piece, its end; the image's bytes and pieces; nanoseconds for opening a store from it",

@@ -1,21 +1,21 @@
-//! Calls as lines of a script, each made by the task of a space, and what makes them.
+//! Calls as lines of a script, each made by the task of a space, and the trait that makes them.
 
 use crate::Fault;
 use ipc_model::Call;
 use script::read_request_line;
 use std::alloc::Global;
 
-/// A line and how many times it is made: the space of the task, the line, the number that its `#` stands for, which is
-/// the next one each time, and how many times.
+/// A line: the space of the task, the text, the first number for its `#`, which increases by one each time, and the
+/// number of repetitions.
 pub(crate) type Line<'a> = (u32, &'a str, u32, u32);
 
 /// Makes calls.
 pub(crate) trait Maker {
-    /// Makes a call of a task of this space. Returns whether it was done, or refused if that is expected.
+    /// Makes a call of a task in this space. Returns true if it was done, or refused if that is expected.
     fn make(&mut self, space: u32, call: &Call, is_done: bool) -> bool;
 }
 
-/// A call of a task of a space.
+/// A call of a task in a space.
 #[derive(Drop)]
 pub(crate) struct CostStep {
     pub(crate) space: u32,
@@ -29,7 +29,7 @@ fn read_line(alloc: Global, line: &str) -> Result<Call, Fault> {
     }
 }
 
-/// The call of a line, with this number for its `#`.
+/// Returns the call of a line, with this number in place of its `#`.
 pub(crate) fn call_of(alloc: Global, line: &str, number: u32) -> Result<Call, Fault> {
     let Some((front, beyond)) = line.split_once('#') else {
         return read_line(alloc, line);
@@ -40,7 +40,7 @@ pub(crate) fn call_of(alloc: Global, line: &str, number: u32) -> Result<Call, Fa
     }
 }
 
-/// Makes the call of a line, which has to be done.
+/// Makes the call of a line, which must be done.
 pub(crate) fn make_once<M: Maker>(
     alloc: Global,
     maker: &mut M,
@@ -81,7 +81,7 @@ pub(crate) fn make_lines<M: Maker>(
     Ok(())
 }
 
-/// Adds the calls of a line.
+/// Appends the calls of a line.
 fn push_steps(alloc: Global, steps: &mut Vec<CostStep>, line: Line<'_>) -> Result<(), Fault> {
     let (space, encoding, first, count) = line;
     for number in first..first.saturating_add(count) {
@@ -93,7 +93,7 @@ fn push_steps(alloc: Global, steps: &mut Vec<CostStep>, line: Line<'_>) -> Resul
     Ok(())
 }
 
-/// The calls of lines.
+/// Returns the calls of lines.
 pub(crate) fn steps_of(alloc: Global, lines: &[Line<'_>]) -> Result<Vec<CostStep>, Fault> {
     let mut steps = Vec::new(alloc);
     for line in lines {
@@ -102,7 +102,7 @@ pub(crate) fn steps_of(alloc: Global, lines: &[Line<'_>]) -> Result<Vec<CostStep
     Ok(steps)
 }
 
-/// Makes calls, each of which has to be done.
+/// Makes calls, each of which must be done.
 pub(crate) fn make_steps<M: Maker>(maker: &mut M, steps: &[CostStep]) -> Result<(), Fault> {
     for step in steps {
         if !maker.make(step.space, &step.call, true) {

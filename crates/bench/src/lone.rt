@@ -1,5 +1,5 @@
-//! What calls of a single connection cost, alongside plain writes of as many bytes with two syncs each, which is the
-//! least that a stored call costs.
+//! The cost of calls of a single connection, next to plain writes of as many bytes with two syncs each, which is the
+//! least cost of a stored call.
 
 use crate::Fault;
 use crate::context::{Context, hundredths, per_second};
@@ -10,11 +10,11 @@ use disk::Disk;
 use server::Caller;
 use std::alloc::Global;
 
-/// How many times calls, requests and plain writes are timed, interleaved; the shortest time of each counts.
+/// Number of times that calls, requests and plain writes are timed, interleaved. The shortest time of each counts.
 const TURNS: u32 = 25;
 
-/// How many times the lines of each kind are made in a turn, how many numbers they have there, and how many plain
-/// writes are made.
+/// Number of times that the lines of each kind are made in a turn, number of request numbers that they use, and number
+/// of plain writes.
 const PAIRS: u64 = 25;
 
 const NUMBERS: u32 = 50;
@@ -29,7 +29,7 @@ static BEFORE: [&str; 2] = ["allocate receive", "allocate receive"];
 /// Calls that are stored one by one.
 static CALLS: [&str; 2] = ["allocate dead_name", "deallocate 0x102"];
 
-/// The same with numbers.
+/// The same calls with numbers.
 static NUMBERED: [&str; 2] = [
     "numbered # allocate dead_name",
     "numbered # deallocate 0x102",
@@ -43,7 +43,7 @@ static TRIP: [&str; 4] = [
     "receive 0x101 limit 100",
 ];
 
-/// The nanoseconds that calls, numbered calls, requests with their replies, and plain writes take.
+/// Nanoseconds for calls, numbered calls, requests with their replies, and plain writes.
 #[derive(Clone, Copy)]
 struct Times {
     calls: u64,
@@ -52,7 +52,7 @@ struct Times {
     writes: u64,
 }
 
-/// Makes a call, which has to be acknowledged, with this number if its line has one.
+/// Makes a call, which must be acknowledged, with this number if its line has one.
 fn make<C: Caller>(alloc: Global, caller: &mut C, line: &str, number: u32) -> Result<(), Fault> {
     match caller.call(call_of(alloc, line, number)?) {
         Ok(reply) if reply.is_success() => Ok(()),
@@ -60,7 +60,7 @@ fn make<C: Caller>(alloc: Global, caller: &mut C, line: &str, number: u32) -> Re
     }
 }
 
-/// Makes the calls of lines `times` times, with numbers after this one, and returns how long that takes.
+/// Makes the calls of lines `times` times, with numbers after this one, and returns the time.
 fn time_lines<C: Caller>(
     context: &Context<'_>,
     caller: &mut C,
@@ -79,7 +79,7 @@ fn time_lines<C: Caller>(
     Ok(context.since(start))
 }
 
-/// One turn, whose times count if they are shorter. Its numbers follow this one.
+/// Measures one turn. Shorter times replace the former ones. Its numbers follow this one.
 fn time_turn<C: Caller>(
     context: &Context<'_>,
     caller: &mut C,
@@ -119,7 +119,7 @@ fn time_turns<C: Caller>(
     Ok(least)
 }
 
-/// What is measured on a disk that has no store yet.
+/// Measures on a disk that has no store yet.
 fn time_disk<D: Disk + Drop>(
     context: &Context<'_>,
     disk: D,
@@ -131,8 +131,8 @@ fn time_disk<D: Disk + Drop>(
     times
 }
 
-/// Prints how many calls per second are stored, how many with numbers, how many requests with their replies, which are
-/// four calls, and how many plain writes are made, on a disk that has no store yet.
+/// Prints how many calls, numbered calls, requests with their replies (four calls each) and plain writes are made per
+/// second, on a disk that has no store yet.
 pub(crate) fn print_lone<D: Disk + Drop>(
     context: &Context<'_>,
     disk: Result<D, Fault>,

@@ -1,7 +1,6 @@
-//! `bench FOLDER` measures the product in the folder FOLDER, in which it makes folders and files of its own: how long
-//! and in how much memory stores are opened, acknowledged calls and batches alongside plain writes with as many syncs,
-//! what each kind of call, message and death costs in memory in a small state and in larger ones, and what checkpoints
-//! cost.
+//! `bench FOLDER` measures the product in FOLDER, where it creates folders and files of its own. It measures the time
+//! and the memory for opening stores; acknowledged calls and batches, next to plain writes with as many syncs; the cost
+//! of each kind of call, message and death in memory, in a small state and in larger ones; and the cost of checkpoints.
 #![tactic(auto)]
 
 mod batches;
@@ -40,10 +39,10 @@ use server::Kernel;
 use std::process::ExitCode;
 use std::{env, io};
 
-/// How many more names the space has at most when ports die that a thousand names hold rights to.
+/// Maximum number of extra names in the space when ports die to which a thousand names have rights.
 const ROOM_FOR_DEATHS: u32 = 3_080;
 
-/// What went wrong.
+/// The reason why a measurement failed.
 #[derive(Clone, Copy)]
 enum Fault {
     Store,
@@ -69,7 +68,7 @@ impl Fault {
     }
 }
 
-/// Measures calls and batches that are stored, alongside plain writes.
+/// Measures calls and batches that are stored, next to plain writes.
 fn print_stored<F: Folder>(context: &Context<'_>, folder: &F) -> Result<(), Fault> {
     let mut plain = Plain::create(context)?;
     print_lone(context, folder.new_files(), &mut plain)?;
@@ -91,7 +90,7 @@ fn print_in_memory<M: Machine + Drop>(context: &Context<'_>) -> Result<(), Fault
     print_deaths(context, &mut machines)
 }
 
-/// Measures and prints everything. What looks at this process's memory goes first.
+/// Measures and prints everything. Measurements of this process's memory come first.
 fn print_all<F: Folder, M: Machine + Drop>(context: &Context<'_>, folder: &F) -> Result<(), Fault> {
     print_openings(context, folder)?;
     print_steady(context, folder)?;
@@ -106,7 +105,7 @@ fn run(rt: &HostRuntime, folder: &str) -> Result<(), Fault> {
     print_all::<Context<'_>, Kernel>(&context, &context)
 }
 
-/// The word after the program's name, if it is the only one.
+/// Returns the argument, if there is exactly one.
 fn only_argument(rt: &HostRuntime) -> Option<String> {
     let mut words = env::args(rt).ok()?.skip(1);
     let word = words.next()?;

@@ -1,4 +1,4 @@
-//! What makes calls: a kernel by itself in memory, and a core that stores each call before it goes on.
+//! Makers of calls: a kernel alone in memory, and a core that stores each call before it continues.
 
 use crate::Fault;
 use crate::lines::Maker;
@@ -23,7 +23,7 @@ impl Machine for Kernel {
     }
 }
 
-/// What a core does between calls.
+/// The work of a core between calls.
 #[derive(Clone, Copy)]
 pub(crate) enum Work {
     Take,
@@ -40,17 +40,17 @@ pub(crate) enum Work {
 
 /// A core that stores calls.
 pub(crate) trait CostCore {
-    /// Makes a call, and returns its ticket; `None` if it wasn't made.
+    /// Makes a call, and returns its ticket, or `None` if the call wasn't made.
     fn submit_call(&mut self, space: u32, call: &Call) -> Option<u64>;
 
-    /// Does a piece of work. Returns whether it was done.
+    /// Does a piece of work. Returns true if it was done.
     fn work(&mut self, work: Work) -> bool;
 
-    /// Asks for a ticket's reply. Returns whether its call was done, or refused if that is expected.
+    /// Asks for a ticket's reply. Returns true if its call was done, or refused if that is expected.
     fn answer(&mut self, ticket: u64, is_done: bool) -> bool;
 }
 
-/// The event that is a piece of work.
+/// Returns the event for a piece of work.
 fn event_of(work: Work) -> Event {
     match work {
         Work::Take => Event::Take,
@@ -90,7 +90,8 @@ impl<D: Disk> Maker for System<D> {
     }
 }
 
-/// The work that stores what waits; that of a checkpoint, up to the pieces of its image; and that after them.
+/// The work that stores waiting records; the work of a checkpoint before the pieces of its image; and the work after
+/// them.
 pub(crate) static STORE: [Work; 3] = [Work::Take, Work::Append, Work::Durable];
 
 pub(crate) static ROLL: [Work; 3] = [Work::RollClose, Work::RollHead, Work::RollOpen];
@@ -105,7 +106,7 @@ static BEGIN: [Work; 5] = [
 
 static END: [Work; 2] = [Work::Finish, Work::Durable];
 
-/// Does pieces of work, each of which has to be done.
+/// Does pieces of work, each of which must be done.
 pub(crate) fn work_all<C: CostCore>(core: &mut C, works: &[Work]) -> Result<(), Fault> {
     for work in works {
         if !core.work(*work) {
@@ -126,7 +127,7 @@ pub(crate) fn make_checkpoint<C: CostCore>(core: &mut C) -> Result<(), Fault> {
     work_all(core, &END)
 }
 
-/// Makes a call. If the epoch log is full, a checkpoint is made before.
+/// Makes a call. If the epoch log is full, it makes a checkpoint first.
 fn submit<C: CostCore>(core: &mut C, space: u32, call: &Call) -> Result<u64, Fault> {
     if let Some(ticket) = core.submit_call(space, call) {
         return Ok(ticket);
@@ -135,7 +136,7 @@ fn submit<C: CostCore>(core: &mut C, space: u32, call: &Call) -> Result<u64, Fau
     core.submit_call(space, call).ok_or(Fault::Call)
 }
 
-/// Makes a call that has a record, stores it and asks for its reply. Returns whether it was done, or refused if that is
+/// Makes a recorded call, stores it and asks for its reply. Returns true if it was done, or refused if that is
 /// expected.
 fn make_stored<C: CostCore>(core: &mut C, space: u32, call: &Call, is_done: bool) -> bool {
     let Ok(ticket) = submit(core, space, call) else {
@@ -147,7 +148,7 @@ fn make_stored<C: CostCore>(core: &mut C, space: u32, call: &Call, is_done: bool
     core.answer(ticket, is_done)
 }
 
-/// The core of a store on a disk.
+/// Returns the core of a store on a disk.
 pub(crate) fn open_core<D: Disk + Drop>(alloc: Global, disk: D) -> Result<System<D>, Fault> {
     match open(alloc, disk) {
         Ok(opened) => Ok(System::new(alloc, opened)),
@@ -155,7 +156,7 @@ pub(crate) fn open_core<D: Disk + Drop>(alloc: Global, disk: D) -> Result<System
     }
 }
 
-/// A single caller of a store on a disk.
+/// Returns a single caller of a store on a disk.
 pub(crate) fn open_alone<D: Disk + Drop>(alloc: Global, disk: D) -> Result<Alone<D>, Fault> {
     match open(alloc, disk) {
         Ok(opened) => Ok(Alone::new(alloc, opened)),

@@ -1,4 +1,4 @@
-//! What messages cost: a send with its receive, by size and by rights, and a request with its reply.
+//! The cost of messages: a send with its receive, by size and by rights, and a request with its reply.
 
 use crate::Fault;
 use crate::context::Context;
@@ -6,8 +6,8 @@ use crate::turns::{CostLine, Machine, Placed, print_row};
 use crate::ways::{CLIENT, HERE};
 use std::alloc::{AllocError, Global};
 
-/// The messages that are measured: their size, how many rights they carry, and how many times five of them are sent and
-/// received in a turn.
+/// The messages that are measured: their size, the number of their rights, and the number of times that five of them
+/// are sent and received in a turn.
 static MESSAGES: [(&str, u32, u32, u64); 8] = [
     ("24 bytes", 24, 0, 200),
     ("1 KiB", 1_024, 0, 200),
@@ -19,8 +19,8 @@ static MESSAGES: [(&str, u32, u32, u64); 8] = [
     ("8 KiB with 256 rights", 8_192, 256, 2),
 ];
 
-/// Messages of 24 bytes to the port at which messages wait in one of the ways; and a request with a right for the
-/// reply, its receive, the reply, and its receive.
+/// Messages of 24 bytes to the port in whose queue messages wait in one of the ways; and a request with a reply right,
+/// its receive, the reply, and its receive.
 static SMALL: [CostLine<'static>; 2] = [
     CostLine {
         label: "24 bytes, where messages wait",
@@ -50,10 +50,10 @@ static SMALL: [CostLine<'static>; 2] = [
     },
 ];
 
-/// How a message goes to the port 0x100, by a send right that is made for it.
+/// A send to the port 0x100 by a send right that is made for it.
 pub(crate) const BY_SEND: &str = "send make_send 0x100 id 7";
 
-/// Adds an item of `count` bytes.
+/// Appends an item of `count` bytes.
 fn push_item(line: &mut String, count: u32) -> Result<(), AllocError> {
     line.push_str(" item bytes ")?;
     for _ in 0..count {
@@ -62,7 +62,7 @@ fn push_item(line: &mut String, count: u32) -> Result<(), AllocError> {
     Ok(())
 }
 
-/// Adds items of `count` bytes in all, each of at most 4,000 bytes after its descriptor.
+/// Appends items of `count` bytes in all, each of at most 4,000 bytes after its descriptor.
 fn push_bytes(line: &mut String, count: u32) -> Result<(), AllocError> {
     for _ in 0..count / 4_004 {
         push_item(line, 4_000)?;
@@ -74,7 +74,7 @@ fn push_bytes(line: &mut String, count: u32) -> Result<(), AllocError> {
     Ok(())
 }
 
-/// Adds what a message of this size has after its header, with this many send rights, which are moved.
+/// Appends the items of a message of this size, with this many send rights, which are moved.
 fn push_body(line: &mut String, size: u32, rights: u32) -> Result<(), AllocError> {
     let mut left = size.saturating_sub(24);
     if rights > 0 {
@@ -87,7 +87,7 @@ fn push_body(line: &mut String, size: u32, rights: u32) -> Result<(), AllocError
     push_bytes(line, left)
 }
 
-/// The line that sends a message in this way, of this size and with this many send rights.
+/// Returns the line that sends a message in this way, of this size and with this many send rights.
 pub(crate) fn send_line(alloc: Global, how: &str, size: u32, rights: u32) -> Result<String, Fault> {
     let mut line = String::new(alloc);
     if line.push_str(how).is_err() || push_body(&mut line, size, rights).is_err() {
@@ -96,7 +96,7 @@ pub(crate) fn send_line(alloc: Global, how: &str, size: u32, rights: u32) -> Res
     Ok(line)
 }
 
-/// Measures messages that are sent by this line, and prints them.
+/// Measures messages that are sent by this line, and prints the results.
 fn print_message<M: Machine>(
     context: &Context<'_>,
     machines: &mut [Placed<M>],
@@ -117,7 +117,7 @@ fn print_message<M: Machine>(
     print_row(context, machines, &row, 5)
 }
 
-/// Prints what messages cost.
+/// Prints the cost of messages.
 pub(crate) fn print_messages<M: Machine>(
     context: &Context<'_>,
     machines: &mut [Placed<M>],

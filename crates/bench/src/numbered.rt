@@ -1,4 +1,4 @@
-//! What numbered calls cost in memory, interleaved with the same calls without a number.
+//! The cost of numbered calls in memory, interleaved with the same calls without numbers.
 
 use crate::Fault;
 use crate::context::{Context, hundredths};
@@ -8,13 +8,13 @@ use crate::turns::Machine;
 use crate::ways::{ALL_WAYS, HERE};
 use std::alloc::Global;
 
-/// How many times calls are timed with numbers and without; the shortest time of each counts.
+/// Number of times that calls are timed with numbers and without. The shortest time of each counts.
 const TURNS: u32 = 15;
 
-/// How many calls are made in a turn, in pairs that leave the state as it was.
+/// Number of calls in a turn, in pairs that leave the state unchanged.
 const CALLS: u32 = 200;
 
-/// Pairs of calls, and how many bytes the first one's message has, if it is a send.
+/// Pairs of calls, and the length of the first one's message in bytes, if it is a send.
 static PAIRS: [(&str, [&str; 2], u32); 4] = [
     (
         "allocate, destroy",
@@ -38,14 +38,14 @@ static PAIRS: [(&str, [&str; 2], u32); 4] = [
     ),
 ];
 
-/// The nanoseconds of a turn without numbers, and with them.
+/// Nanoseconds of a turn without numbers, and with them.
 #[derive(Clone, Copy)]
 struct Nanos {
     plain: u64,
     numbered: u64,
 }
 
-/// The lines of a pair, with this before each.
+/// Returns the lines of a pair, with this prefix.
 fn lines_of(
     alloc: Global,
     before: &str,
@@ -62,7 +62,7 @@ fn lines_of(
     Ok([send_line(alloc, first.as_str(), size, 0)?, second])
 }
 
-/// The calls of a turn, with numbers from this on where the lines have one.
+/// Returns the calls of a turn. Lines with a number use numbers from this one on.
 fn calls_of(alloc: Global, lines: &[String; 2], from: u32) -> Result<Vec<CostStep>, Fault> {
     let mut steps = Vec::new(alloc);
     for place in 0..CALLS {
@@ -75,7 +75,7 @@ fn calls_of(alloc: Global, lines: &[String; 2], from: u32) -> Result<Vec<CostSte
     Ok(steps)
 }
 
-/// How long the calls of a turn take.
+/// Returns the time for the calls of a turn.
 fn time_calls<M: Machine>(
     context: &Context<'_>,
     machine: &mut M,
@@ -88,7 +88,7 @@ fn time_calls<M: Machine>(
     Ok(context.since(start))
 }
 
-/// The shortest times of a pair of calls.
+/// Returns the shortest times of a pair of calls.
 fn time_pair<M: Machine>(
     context: &Context<'_>,
     machine: &mut M,
@@ -112,7 +112,7 @@ fn time_pair<M: Machine>(
     Ok(least)
 }
 
-/// Measures the pairs in the small state, and prints what one call of each takes.
+/// Measures the pairs in the small state, and prints the time of one call of each.
 fn print_pairs<M: Machine>(context: &Context<'_>, machine: &mut M) -> Result<(), Fault> {
     let mut from = 1u32;
     for (label, pair, size) in &PAIRS {
@@ -130,7 +130,7 @@ fn print_pairs<M: Machine>(context: &Context<'_>, machine: &mut M) -> Result<(),
     Ok(())
 }
 
-/// Prints what numbered calls cost.
+/// Prints the cost of numbered calls.
 pub(crate) fn print_numbered<M: Machine + Drop>(context: &Context<'_>) -> Result<(), Fault> {
     context.print_row(
         "nanoseconds of a call without a number, and with one; how many times as long",

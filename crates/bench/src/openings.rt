@@ -1,4 +1,4 @@
-//! How long opening a store takes, and how much memory, by its records.
+//! The time and the memory for opening a store, by its records.
 
 use crate::Fault;
 use crate::context::{Context, Folder, hundredths};
@@ -14,15 +14,15 @@ use std::alloc::Global;
 /// A small call, and the one that undoes it.
 const SMALL: (&str, &str) = ("allocate receive", "destroy 0x102");
 
-/// The call that receives the message of 8 KiB that was sent before.
+/// The call that receives the message of 8 KiB that was sent.
 const RECEIPT: &str = "receive 0x100 limit 8192";
 
-/// How many pairs of calls stores have, after the two that begin each: 32,768 records, and 65,536.
+/// Numbers of pairs of calls, after the two calls with which each store begins: 32,768 and 65,536 records.
 const HALF: u32 = 16_383;
 
 const ALL: u32 = 32_767;
 
-/// Makes two ports, and then pairs of calls.
+/// Makes two ports, then pairs of calls.
 fn make_records<M: Maker>(
     alloc: Global,
     maker: &mut M,
@@ -37,7 +37,7 @@ fn make_records<M: Maker>(
     Ok(())
 }
 
-/// Makes a store of them on a disk that has none, without syncs.
+/// Makes a store with these records on a disk that has none, without syncs.
 fn make_store<D: Disk + Drop>(
     alloc: Global,
     disk: D,
@@ -56,7 +56,7 @@ fn make_store<D: Disk + Drop>(
     Ok(disk)
 }
 
-/// How long it takes to open a store, and the store's disk.
+/// Returns the time for opening a store, and the store's disk.
 pub(crate) fn time_opening<D: Disk + Drop>(
     context: &Context<'_>,
     disk: D,
@@ -70,7 +70,7 @@ pub(crate) fn time_opening<D: Disk + Drop>(
     }
 }
 
-/// The shortest of three times to open a store, and the store's disk.
+/// Returns the shortest of three times to open a store, and the store's disk.
 pub(crate) fn shortest_opening<D: Disk + Drop>(
     context: &Context<'_>,
     disk: D,
@@ -81,7 +81,7 @@ pub(crate) fn shortest_opening<D: Disk + Drop>(
     Ok((first.min(second).min(third), disk))
 }
 
-/// How many microseconds it takes to open a store with this many pairs of small records, on a disk that has none.
+/// Returns the microseconds for opening a store with this many pairs of small records, on a disk that has none.
 fn micros_of_small<D: Disk + Drop>(
     context: &Context<'_>,
     disk: Result<D, Fault>,
@@ -92,13 +92,13 @@ fn micros_of_small<D: Disk + Drop>(
     Ok(nanos / 1_000)
 }
 
-/// A store of 8 KiB messages and their receives, on a disk that has none.
+/// Makes a store with messages of 8 KiB and their receives, on a disk that has none.
 fn store_of_messages<D: Disk + Drop>(context: &Context<'_>, disk: D) -> Result<D, Fault> {
     let line = send_line(context.alloc, BY_SEND, 8_192, 0)?;
     make_store(context.alloc, disk, (line.as_str(), RECEIPT), ALL)
 }
 
-/// Prints how much memory opening such a store takes.
+/// Prints the memory for opening such a store.
 fn print_memory<D: Disk + Drop>(
     context: &Context<'_>,
     disk: Result<D, Fault>,
@@ -116,7 +116,7 @@ fn print_memory<D: Disk + Drop>(
     Ok(())
 }
 
-/// Prints how long opening stores of small records takes, and how much memory opening one of large ones.
+/// Prints the time for opening stores of small records, and the memory for opening one of large records.
 pub(crate) fn print_openings<F: Folder>(context: &Context<'_>, folder: &F) -> Result<(), Fault> {
     print_memory(context, folder.new_files())?;
     let half = micros_of_small(context, folder.new_files(), HALF)?;

@@ -5,13 +5,13 @@ use crate::context::Context;
 use std::fs::File;
 use std::io::{self, Write};
 
-/// How many bytes are written at most before the first sync: more than a batch of 4,096 messages of 1 KiB has.
+/// Maximum number of bytes before the first sync: more than a batch of 4,096 messages of 1 KiB has.
 const MOST: usize = 4_800_000;
 
-/// How many bytes are written between the syncs of a pair: those of a batch of one small record.
+/// Number of bytes between the syncs of a pair: those of a batch with one small record.
 pub(crate) const PAIR: u64 = 54;
 
-/// A file, and bytes to write.
+/// A file, and bytes to be written.
 #[derive(Drop)]
 pub(crate) struct Plain {
     file: File,
@@ -19,7 +19,7 @@ pub(crate) struct Plain {
 }
 
 impl Plain {
-    /// A new file.
+    /// Creates a new file.
     pub(crate) fn create(context: &Context<'_>) -> Result<Plain, Fault> {
         let file = context.new_file()?;
         match Vec::from_elem(context.alloc, 0x61, MOST) {
@@ -36,7 +36,7 @@ impl Plain {
         self.file.sync_all()
     }
 
-    /// How long `count` writes take, of this many bytes each.
+    /// Returns the time for `count` writes of this many bytes each.
     pub(crate) fn time(
         &mut self,
         context: &Context<'_>,

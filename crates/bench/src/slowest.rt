@@ -1,4 +1,4 @@
-//! The slowest calls of a single caller on files, while no checkpoint is under way and while one is.
+//! The slowest calls of a single caller on files, without and during a checkpoint.
 
 use crate::Fault;
 use crate::context::{Context, Folder};
@@ -13,21 +13,20 @@ use ipc_model::{Call, PlainCall};
 use server::Caller;
 use std::alloc::Global;
 
-/// States that are measured: their ports and spaces, in how many stores each, and how many calls are made in each store
-/// before a checkpoint begins. A checkpoint of 10 ports is done after three more calls, so that state needs more
-/// stores.
+/// The states that are measured: the number of ports, of spaces, of stores, and of calls in each store before a
+/// checkpoint begins. A checkpoint of 10 ports is over after three more calls, so that state needs more stores.
 static STATES: [(u32, u32, u32, u32); 2] = [(10, 1, 20, 20), (16_000, 4, 1, 400)];
 
-/// How many calls are made to a store at most. An image of 16,000 ports has some hundreds of pieces, and one is written
+/// Maximum number of calls to a store. An image of 16,000 ports has some hundreds of pieces, of which one is written
 /// after each call.
 const MOST_CALLS: u32 = 4_000;
 
-/// A name of a port, and a call with a record that leaves the state as it is.
+/// A name of a port, and a recorded call that leaves the state unchanged.
 const FIRST_NAME: u32 = 0x100;
 
 const RECORDED: &str = "set_mscount 0x100 1";
 
-/// Times of calls, each from its beginning to its reply, or of rests after them.
+/// Times of calls, each from its beginning to its reply, or of the rests after them.
 #[derive(Clone, Copy)]
 struct Times {
     count: u64,
@@ -48,7 +47,7 @@ impl Times {
         self.sum = self.sum.saturating_add(nanos);
     }
 
-    /// The microseconds of the longest, and the mean.
+    /// Returns the longest and the mean time in microseconds.
     fn micros(&self) -> (u64, u64) {
         let mean = self.sum.checked_div(self.count).unwrap_or(0);
         (self.longest / 1_000, mean / 1_000)
@@ -67,7 +66,8 @@ const NEITHER: Both = Both {
     rests: NONE,
 };
 
-/// How long a call and the rest after it took, and whether that wrote: only a step of a checkpoint does.
+/// The times of a call and of the rest after it, and true if anything was written meanwhile, which only a step of a
+/// checkpoint does.
 #[derive(Clone, Copy)]
 struct Round {
     call: u64,
@@ -75,7 +75,7 @@ struct Round {
     is_step: bool,
 }
 
-/// Makes ports, and as many other calls as leave this many to the beginning of a checkpoint.
+/// Makes ports, and then other calls until this many are left before a checkpoint begins.
 fn prepare<M: Maker>(
     alloc: Global,
     maker: &mut M,
@@ -92,7 +92,7 @@ fn prepare<M: Maker>(
     make_line(alloc, maker, (HERE, RECORDED, 0, count))
 }
 
-/// A new store in which this was made.
+/// Makes a new store with these contents.
 fn prepared<D: Disk + Drop>(
     alloc: Global,
     disk: D,
@@ -106,7 +106,7 @@ fn prepared<D: Disk + Drop>(
     Ok(disk)
 }
 
-/// Makes a call and rests, and returns how long each took.
+/// Makes a call and rests, and returns both times.
 fn time_round<C: Caller>(
     context: &Context<'_>,
     caller: &mut C,
@@ -134,8 +134,8 @@ fn time_round<C: Caller>(
     })
 }
 
-/// Makes calls until a checkpoint was begun and done. A call counts as made while one is under way if there was a step
-/// of it before and after the call.
+/// Makes calls until a checkpoint has begun and ended. A call counts as made during the checkpoint if a step of it
+/// precedes the call and another one follows.
 fn time_rounds<C: Caller>(
     context: &Context<'_>,
     caller: &mut C,
@@ -164,7 +164,7 @@ fn time_rounds<C: Caller>(
     Err(Fault::Store)
 }
 
-/// Times the calls of one store, whose syncs are left out until all is prepared; then it is opened again, which syncs
+/// Times the calls of one store. Syncs are skipped until all is prepared; then the store is reopened, which syncs
 /// everything.
 fn time_store<D: Disk + Drop>(
     context: &Context<'_>,
@@ -201,7 +201,7 @@ fn print_times(context: &Context<'_>, label: &str, times: &Both) {
     context.print_row(label, &figures, &[]);
 }
 
-/// Measures the calls of a state in new stores, and prints them.
+/// Measures the calls of a state in new stores, and prints the results.
 fn print_state<F: Folder>(
     context: &Context<'_>,
     folder: &F,

@@ -6,14 +6,14 @@ use crate::messages::send_line;
 use crate::ways::HERE;
 use std::alloc::Global;
 
-/// How many of the ports are in one space.
+/// Maximum number of ports in one space.
 const PORTS_OF_SPACE: u32 = 4_000;
 
-/// How many messages a queue takes.
+/// Number of messages in a queue.
 const MESSAGES_OF_QUEUE: u32 = 5;
 
-/// What a state has: spaces, ports in the first of them, names in each of them, dead except for its first one, and
-/// messages of a size in queues of the first space.
+/// The contents of a state: the number of spaces, of ports in the first of them, of names in each of them, dead except
+/// the first one, and of messages of a size in queues of the first space.
 #[derive(Clone, Copy)]
 pub(crate) struct Shape {
     pub(crate) spaces: u32,
@@ -23,7 +23,7 @@ pub(crate) struct Shape {
     pub(crate) size: u32,
 }
 
-/// The least: one space with one port.
+/// The smallest state: one space with one port.
 pub(crate) const LEAST: Shape = Shape {
     spaces: 1,
     ports: 1,
@@ -32,7 +32,7 @@ pub(crate) const LEAST: Shape = Shape {
     size: 0,
 };
 
-/// Makes what one space has: ports and dead names after its first name.
+/// Makes the contents of one space: ports, and dead names after its first name.
 fn make_space<M: Maker>(
     alloc: Global,
     maker: &mut M,
@@ -51,7 +51,7 @@ fn make_space<M: Maker>(
     make_line(alloc, maker, (space, "allocate dead_name", 0, names))
 }
 
-/// Makes messages, one in each queue, and again until there are enough.
+/// Makes messages, one in each queue, repeatedly until there are enough.
 fn make_messages<M: Maker>(alloc: Global, maker: &mut M, shape: Shape) -> Result<(), Fault> {
     let line = send_line(alloc, "send make_send # id 7", shape.size, 0)?;
     for _ in 0..MESSAGES_OF_QUEUE {

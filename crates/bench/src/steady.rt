@@ -1,5 +1,4 @@
-//! The memory and the bytes of a store whose single connection goes on for long, by calls that leave the state as it
-//! was.
+//! The memory and the size of a store whose single connection runs for long, with calls that leave the state unchanged.
 
 use crate::Fault;
 use crate::context::{Context, Folder, hundredths};
@@ -11,52 +10,52 @@ use server::{Caller, serve};
 use std::alloc::Global;
 use words::take_word;
 
-/// What is made before: the receive right 0x100.
+/// The call before the others: it allocates the receive right 0x100.
 static BEFORE: [u8; 12] = [8, 0, 0, 0, 5, 0, 0, 0, 1, 0, 0, 0];
 
-/// The calls that are made again and again. Of what they made, they leave only the sequence number and the make-send
-/// count of the first port, and the next port's serial number.
+/// The calls that are repeated. They change only the sequence number and the make-send count of the first port, and the
+/// next port's serial number.
 static CYCLE: [&[u8]; 8] = [
-    // A receive right is allocated: 0x101.
+    // Allocates the receive right 0x101.
     &[8, 0, 0, 0, 5, 0, 0, 0, 1, 0, 0, 0],
-    // The name gets a send right to it too.
+    // Adds a send right to the name.
     &[
         16, 0, 0, 0, 17, 0, 0, 0, 1, 1, 0, 0, 1, 1, 0, 0, 20, 0, 0, 0,
     ],
-    // A message of 24 bytes goes to 0x100, with a send-once right to 0x101.
+    // Sends a message of 24 bytes to 0x100, with a send-once right to 0x101.
     &[
         44, 0, 0, 0, 19, 0, 0, 0, 1, 0, 0, 0, 0, 0, 0, 0, 0, 0, 0, 0, 0, 0, 0, 0, 20, 21, 0, 0, 24,
         0, 0, 0, 0, 1, 0, 0, 1, 1, 0, 0, 0, 0, 0, 0, 7, 0, 0, 0,
     ],
-    // It is received, and the right has the name 0x102.
+    // Receives the message; the right gets the name 0x102.
     &[
         20, 0, 0, 0, 19, 0, 0, 0, 2, 0, 0, 0, 24, 0, 0, 0, 0, 1, 0, 0, 0, 0, 0, 0,
     ],
-    // Two reads: the type of 0x102, and how many send rights 0x101 has.
+    // Two reads: the type of 0x102, and the number of send rights under 0x101.
     &[8, 0, 0, 0, 2, 0, 0, 0, 2, 1, 0, 0],
     &[12, 0, 0, 0, 8, 0, 0, 0, 1, 1, 0, 0, 0, 0, 0, 0],
-    // The send-once right is given up, for which a notice goes to 0x101; and that is destroyed with the notice.
+    // Releases the send-once right, which sends a notice to 0x101, and destroys 0x101 with the notice.
     &[8, 0, 0, 0, 7, 0, 0, 0, 2, 1, 0, 0],
     &[8, 0, 0, 0, 6, 0, 0, 0, 1, 1, 0, 0],
 ];
 
-/// How many cycles are sent at once: 1,000 frames, of which 750 have a record.
+/// Number of cycles that are sent at once: 1,000 frames, of which 750 are recorded.
 const AT_ONCE: u32 = 125;
 
 const FRAMES: u64 = 1_000;
 
-/// How many thousands of calls are made in memory, and on files, when the first look ends and when the second does.
+/// Thousands of calls in memory, and on files, at which the first period and the second one end.
 const IN_MEMORY: (u32, u32) = (100, 1_000);
 
 const ON_FILES: (u32, u32) = (100, 300);
 
-/// For how many thousands of calls a look lasts: 33,000 records, so that it sees an epoch of 32,768 in each of its
-/// phases, including the checkpoint, wherever it ends. The two looks end in different phases: with the first call,
-/// 100,000 calls have 75,001 records, 9,465 of them in the third epoch, and 1,000,000 calls 750,001, 29,105 of them in
-/// the twenty-third.
+/// Length of a period in thousands of calls. It has 33,000 records, so that it includes each phase of an epoch of
+/// 32,768 records, with the checkpoint, wherever it ends. The two periods end in different phases: with the first call,
+/// 100,000 calls have 75,001 records, 9,465 of them in the third epoch, and 1,000,000 calls have 750,001, 29,105 of
+/// them in the twenty-third.
 const LOOK: u32 = 44;
 
-/// The most that was seen: resident memory, in kilobytes, and the bytes of the store.
+/// Maximum values: resident memory in kilobytes, and the size of the store in bytes.
 #[derive(Clone, Copy)]
 struct Most {
     memory: u64,
@@ -68,7 +67,7 @@ const NOTHING: Most = Most {
     bytes: 0,
 };
 
-/// The bytes after a reply with code 0.
+/// Returns the bytes after a reply with code 0.
 fn after_done(replies: &[u8]) -> Option<&[u8]> {
     let (length, reply) = take_word(replies)?;
     let (_, results) = take_word(reply)?;
@@ -79,7 +78,7 @@ fn after_done(replies: &[u8]) -> Option<&[u8]> {
     reply.get(length as usize..)
 }
 
-/// Whether bytes are `count` replies, each with code 0.
+/// Returns true if the bytes are `count` replies, each with code 0.
 fn are_done(replies: &[u8], count: u64) -> bool {
     let mut rest = replies;
     for _ in 0..count {
@@ -91,7 +90,7 @@ fn are_done(replies: &[u8], count: u64) -> bool {
     rest.is_empty()
 }
 
-/// The frames that are sent at once.
+/// Returns the frames that are sent at once.
 fn frames_at_once(alloc: Global) -> Result<Vec<u8>, Fault> {
     let mut frames = Vec::new(alloc);
     for _ in 0..AT_ONCE {
@@ -104,7 +103,7 @@ fn frames_at_once(alloc: Global) -> Result<Vec<u8>, Fault> {
     Ok(frames)
 }
 
-/// Serves frames, each of which has to be done.
+/// Sends frames to a caller; each must be done.
 fn serve_frames<C: Caller>(
     alloc: Global,
     caller: &mut C,
@@ -123,7 +122,7 @@ fn serve_frames<C: Caller>(
     }
 }
 
-/// Serves `thousands` thousands of frames, and returns the most that is seen after a thousand of them.
+/// Sends `thousands` thousands of frames, and returns the maximum values after each thousand.
 fn serve_thousands<C: Caller>(
     context: &Context<'_>,
     caller: &mut C,
@@ -140,7 +139,7 @@ fn serve_thousands<C: Caller>(
     Ok(most)
 }
 
-/// Serves up to two counts of calls, and returns the most of the look that ends with each.
+/// Sends frames up to two counts of calls, and returns the maximum values of the period that ends at each.
 fn serve_long<C: Caller>(
     context: &Context<'_>,
     caller: &mut C,
@@ -158,7 +157,7 @@ fn serve_long<C: Caller>(
     Ok((early, late))
 }
 
-/// Prints the most of two looks, and how many times the first the second is.
+/// Prints the maximum values of both periods, and the ratio of the second to the first.
 fn print_looks(context: &Context<'_>, early: Most, late: Most) {
     for (label, first, second) in [
         ("resident memory, kB", early.memory, late.memory),
@@ -168,7 +167,7 @@ fn print_looks(context: &Context<'_>, early: Most, late: Most) {
     }
 }
 
-/// Prints what a store on a disk takes after two counts of thousands of calls.
+/// Prints the values of a store on a disk after two counts of thousands of calls.
 fn print_on<D: Disk + Drop>(
     context: &Context<'_>,
     disk: Result<D, Fault>,
@@ -188,7 +187,7 @@ fn print_on<D: Disk + Drop>(
     Ok(())
 }
 
-/// Prints what stores take that go on for long.
+/// Prints the values of stores that run for long.
 pub(crate) fn print_steady<F: Folder>(context: &Context<'_>, folder: &F) -> Result<(), Fault> {
     let frames = frames_at_once(context.alloc)?;
     context.print_row(

@@ -6,18 +6,18 @@ use crate::lines::{CostStep, Maker, steps_of};
 use crate::ways::{ALL_WAYS, Alongside, NEXT, WAYS};
 use std::alloc::Global;
 
-/// How many parts a row has at most.
+/// Maximum number of parts in a row.
 const MOST_PARTS: usize = 16;
 
-/// How many times a row is measured in each way, interleaved. The shortest time of each counts, since other work slows
-/// the machine for longer than a turn takes.
+/// Number of times that a row is measured in each way, interleaved. The shortest time of each counts, because other
+/// work slows the machine for longer than a turn.
 const TURNS: u32 = 15;
 
-/// Calls that are timed together: what they are, or nothing if that isn't printed; and their line.
+/// Calls that are timed together: a label, which is empty if they aren't printed, and their line.
 pub(crate) type Part<'a> = (&'a str, u32, &'a str, u32, u32);
 
-/// Parts that together leave the state as it was: what they are together, or nothing if that isn't printed; how many
-/// times they are made in a turn, and whether they are done or refused.
+/// Parts that together leave the state unchanged: a label for all of them, which is empty if it isn't printed; the
+/// number of repetitions in a turn; and true if they are done instead of refused.
 #[derive(Clone, Copy)]
 pub(crate) struct CostLine<'a> {
     pub(crate) label: &'a str,
@@ -28,7 +28,7 @@ pub(crate) struct CostLine<'a> {
 
 /// Makes calls in memory.
 pub(crate) trait Machine: Maker {
-    /// In the opening state.
+    /// Creates a machine in the opening state.
     fn opened(alloc: Global) -> Option<Self>;
 }
 
@@ -39,7 +39,7 @@ pub(crate) struct Placed<M> {
     next_space: u32,
 }
 
-/// The nanoseconds of the parts of a row.
+/// Nanoseconds of the parts of a row.
 type Nanos = [u64; MOST_PARTS];
 
 fn place<M: Machine + Drop>(alloc: Global, alongside: Alongside) -> Result<Placed<M>, Fault> {
@@ -54,7 +54,7 @@ fn place<M: Machine + Drop>(alloc: Global, alongside: Alongside) -> Result<Place
     })
 }
 
-/// A machine in the state of each way, with at most this many extra names.
+/// Returns a machine in the state of each way, with at most this many extra names.
 pub(crate) fn place_all<M: Machine + Drop>(
     alloc: Global,
     most_names: u32,
@@ -69,7 +69,7 @@ pub(crate) fn place_all<M: Machine + Drop>(
     Ok(machines)
 }
 
-/// The calls of each part.
+/// Returns the calls of each part.
 fn parts_of(alloc: Global, row: &CostLine<'_>) -> Result<Vec<Vec<CostStep>>, Fault> {
     let mut parts = Vec::new(alloc);
     for (_, space, line, first, count) in row.parts {
@@ -81,7 +81,7 @@ fn parts_of(alloc: Global, row: &CostLine<'_>) -> Result<Vec<Vec<CostStep>>, Fau
     Ok(parts)
 }
 
-/// How long calls take.
+/// Returns the time for calls.
 fn time_steps<M: Machine>(
     context: &Context<'_>,
     placed: &mut Placed<M>,
@@ -102,7 +102,7 @@ fn time_steps<M: Machine>(
     Ok(context.since(start))
 }
 
-/// Makes each part once, and adds how long each takes.
+/// Makes each part once, and adds the time of each.
 fn time_round<M: Machine>(
     context: &Context<'_>,
     placed: &mut Placed<M>,
@@ -117,7 +117,7 @@ fn time_round<M: Machine>(
     Ok(())
 }
 
-/// How long the parts of a row take in a turn.
+/// Returns the times for the parts of a row in a turn.
 fn time_turn<M: Machine>(
     context: &Context<'_>,
     placed: &mut Placed<M>,
@@ -131,14 +131,14 @@ fn time_turn<M: Machine>(
     Ok(sums)
 }
 
-/// Lowers times to those that are shorter.
+/// Replaces times by shorter ones.
 fn lower(least: &mut Nanos, nanos: &Nanos) {
     for (shortest, time) in least.iter_mut().zip(nanos) {
         *shortest = (*shortest).min(*time);
     }
 }
 
-/// One turn in each way.
+/// Measures one turn in each way.
 fn time_ways<M: Machine>(
     context: &Context<'_>,
     machines: &mut [Placed<M>],
@@ -153,7 +153,7 @@ fn time_ways<M: Machine>(
     Ok(())
 }
 
-/// The shortest times of each part in each way.
+/// Returns the shortest times of each part in each way.
 fn time_row<M: Machine>(
     context: &Context<'_>,
     machines: &mut [Placed<M>],
@@ -167,7 +167,7 @@ fn time_row<M: Machine>(
     Ok(least)
 }
 
-/// The times of a part in each way.
+/// Returns the times of a part in each way.
 fn times_of(least: &[Nanos; WAYS], place: usize) -> [u64; WAYS] {
     let mut times = [0; WAYS];
     for (time, nanos) in times.iter_mut().zip(least) {
@@ -176,7 +176,7 @@ fn times_of(least: &[Nanos; WAYS], place: usize) -> [u64; WAYS] {
     times
 }
 
-/// The times of all parts together in each way.
+/// Returns the times of all parts together in each way.
 fn sums_of(least: &[Nanos; WAYS]) -> [u64; WAYS] {
     let mut sums = [0u64; WAYS];
     for (sum, nanos) in sums.iter_mut().zip(least) {
@@ -187,7 +187,7 @@ fn sums_of(least: &[Nanos; WAYS]) -> [u64; WAYS] {
     sums
 }
 
-/// Prints the nanoseconds for one of `count` in the small state, and how many times as long each other way takes.
+/// Prints the nanoseconds for one of `count` in the small state, and the ratio of each other way to it.
 fn print_times(context: &Context<'_>, label: &str, count: u64, times: &[u64; WAYS]) {
     if label.is_empty() {
         return;
@@ -201,7 +201,7 @@ fn print_times(context: &Context<'_>, label: &str, count: u64, times: &[u64; WAY
     context.print_row(label, &[each], &ratios[1..]);
 }
 
-/// Measures the calls of a row, and prints its parts, and then all of them together, for one of `count`.
+/// Measures the calls of a row, and prints the time for one of `count`: of each part, and of all parts together.
 pub(crate) fn print_row<M: Machine>(
     context: &Context<'_>,
     machines: &mut [Placed<M>],

@@ -1,9 +1,9 @@
-//! A disk that reports how it is used, and on which syncs can be left out, so that stores are made in a short time.
+//! A disk that counts its use, and whose syncs can be turned off, so that stores are made in a short time.
 
 use disk::{Disk, DiskFault, Slot};
 use std::cell::Cell;
 
-/// What was done with a disk so far, and whether its syncs are done.
+/// The use of a disk so far, and true if its syncs are on.
 #[derive(Drop)]
 pub(crate) struct Watch {
     writes: Cell<u64>,
@@ -12,7 +12,7 @@ pub(crate) struct Watch {
 }
 
 impl Watch {
-    /// Nothing was done.
+    /// Creates a watch without any use.
     pub(crate) fn new(is_syncing: bool) -> Watch {
         Watch {
             writes: Cell::new(0),
@@ -21,23 +21,23 @@ impl Watch {
         }
     }
 
-    /// How many times it was written to or truncated.
+    /// Returns the number of writes and truncations.
     pub(crate) fn writes(&self) -> u64 {
         self.writes.get()
     }
 
-    /// How many bytes its slots have together.
+    /// Returns the total length of the slots in bytes.
     pub(crate) fn bytes(&self) -> u64 {
         self.bytes.get()
     }
 
-    /// Does syncs from now on.
+    /// Turns syncs on.
     pub(crate) fn begin_syncs(&self) {
         self.is_syncing.set(true);
     }
 }
 
-/// A disk, and what watches it.
+/// A disk, and its watch.
 #[derive(Drop)]
 pub(crate) struct Watched<'a, D> {
     pub(crate) disk: D,
@@ -45,7 +45,7 @@ pub(crate) struct Watched<'a, D> {
 }
 
 impl<'a, D: Disk> Watched<'a, D> {
-    /// Reports to the watch what the slots have after one more write.
+    /// Updates the watch after a write.
     fn tell(&self) {
         let mut bytes = 0u64;
         for slot in [Slot::Image0, Slot::Image1, Slot::Segment0, Slot::Segment1] {
@@ -59,7 +59,7 @@ impl<'a, D: Disk> Watched<'a, D> {
 }
 
 impl<'a, D: Disk> Disk for Watched<'a, D> {
-    // It keeps no disk model: if syncs are left out, a crash may leave anything.
+    // There is no disk model: without syncs a crash may leave anything.
     ghost honest = { ⊥ };
 
     ghost view = { λ watched. D.view watched.disk };

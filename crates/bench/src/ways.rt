@@ -7,16 +7,16 @@ use std::alloc::Global;
 /// The space in which calls are measured.
 pub(crate) const HERE: u32 = 1;
 
-/// Another one, which has a send right 0x100 to the port 0x100, and a port 0x101.
+/// The other space, which has a send right 0x100 to the port 0x100, and a port 0x101.
 pub(crate) const CLIENT: u32 = 2;
 
-/// Stands for the space that is made next.
+/// Placeholder for the next space.
 pub(crate) const NEXT: u32 = 0;
 
-/// In how many ways calls are measured, the first of them in the small state.
+/// Number of ways in which calls are measured. The first one is the small state.
 pub(crate) const WAYS: usize = 5;
 
-/// What is made in each way: twelve ports 0x100 to 0x10b, of which 0x100 and 0x101 have send rights, a set 0x200 of ten
+/// The contents of each way: twelve ports 0x100 to 0x10b, of which 0x100 and 0x101 have send rights, a set 0x200 of ten
 /// of them, 0x101 to 0x10a, and the other space. So there are 13 ports, and 13 names in the space of the calls.
 static BASE: [Line<'static>; 8] = [
     (HERE, "allocate receive", 0, 12),
@@ -29,7 +29,7 @@ static BASE: [Line<'static>; 8] = [
     (CLIENT, "allocate receive", 0, 1),
 ];
 
-/// What is made in addition: more spaces, with a send right each to the port 0x100; ports in each of the first four of
+/// Further contents of a way: spaces, with a send right each to the port 0x100; ports in each of the first four of
 /// them; dead names in the space of the calls; and messages in the queue of the port 0x10b.
 #[derive(Clone, Copy)]
 pub(crate) struct Alongside {
@@ -46,7 +46,7 @@ const LITTLE: Alongside = Alongside {
     messages: 0,
 };
 
-/// The ways: the small state, 16,000 ports, 4,096 names but for ten, 255 spaces, which leaves room for one, and 1,000
+/// The ways: the small state, 16,000 ports, 4,096 names except ten, 255 spaces, which leaves room for one, and 1,000
 /// messages.
 pub(crate) static ALL_WAYS: [Alongside; WAYS] = [
     LITTLE,
@@ -70,12 +70,12 @@ pub(crate) static ALL_WAYS: [Alongside; WAYS] = [
 ];
 
 impl Alongside {
-    /// The number of the space that is made next.
+    /// Returns the number of the next space.
     pub(crate) fn next_space(&self) -> u32 {
         self.spaces.saturating_add(3)
     }
 
-    /// The same with at most this many names.
+    /// Returns the same way with at most this many names.
     pub(crate) fn with_names(self, most: u32) -> Alongside {
         Alongside {
             names: self.names.min(most),
@@ -83,7 +83,7 @@ impl Alongside {
         }
     }
 
-    /// Makes the base, and this in addition.
+    /// Makes the base, and these further contents.
     pub(crate) fn make<M: Maker>(self, alloc: Global, maker: &mut M) -> Result<(), Fault> {
         make_lines(alloc, maker, &BASE)?;
         let lines = [

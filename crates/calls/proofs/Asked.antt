@@ -1,4 +1,4 @@
--- What frames ask for.
+-- The requests that frames ask for.
 use Rattle.std.proofs.Common.{◌≡◌, ◌≢◌, ℕ, Bool, true, false, ◌==◌, ◌||◌, List, [], ◌++◌, drop, ◌⊎◌, Result, Ok, Err, IfOk, bit_and, if◌then◌else◌, sym, ap, subst, ◌∙◌, arith}
 use Rattle.codes.specs.declared.call_number.TheConstants.{CONFINE, MACH_MSG, NUMBERED}
 use Rattle.codes.specs.declared.kern_return.KernReturn.TheVariants.{Success, InvalidArgument}
@@ -16,12 +16,12 @@ use Rattle.calls.specs.declared.request.Request.{Request}
 use Rattle.calls.specs.declared.request.Request.TheVariants as request
 use Rattle.calls.specs.Requests.{MachMsg, AsksMachMsg, Asks, asked, message_request, has_option, known_options, send_msg, rcv_msg}
 
--- what holds of both holds of the one that is chosen
+-- a predicate that holds of both branches holds of the chosen one
 chosen : {X : Type 0} (P : X → Type 0) (b : Bool) (x y : X) → P x → P y → P (if b then x else y)
 chosen P true x y first second = first
 chosen P false x y first second = second
 
--- what holds of each answer to a mach_msg holds of the one that it has
+-- a predicate that holds of each possible request of a mach_msg holds of its request
 of_asked : (P : Request → Type 0) (m : MachMsg) → P (request.Message (message_request m)) → P (request.Answered Success)
     → P (request.Answered InvalidArgument) → P (asked m)
 unfolding asked
@@ -44,7 +44,7 @@ front_of content arguments (request.Message m) is asks = (arguments, is, asks)
 front_of content arguments (request.Answered code) is asks = (arguments, is, asks)
 front_of content arguments request.Confine is (m, fits, encoded, e) = absurd (never_confine m e)
 
--- what the arguments of a mach_msg ask for, its frame asks for
+-- the request of a mach_msg's arguments is the request of its frame
 pub asks_in_front : (content arguments : List ℕ) (r : Result Request CallFault) → content ≡ word MACH_MSG ++ arguments
     → IfOk r (λ q. AsksMachMsg arguments q) → IfOk r (λ q. Asks content q)
 asks_in_front content arguments (Ok q) is asks = front_of content arguments q is asks
@@ -71,7 +71,7 @@ not_numbered : (arguments others : List ℕ) → word MACH_MSG ++ arguments ≡ 
 not_numbered arguments others same =
     absurd (omega (arith, same_word MACH_MSG NUMBERED arguments others (omega arith) (omega arith) same))
 
--- and what its frame asks for, they ask for
+-- the request of a frame of mach_msg is the request of its arguments
 pub asks_after : (content arguments : List ℕ) (r : Result Request CallFault) → content ≡ word MACH_MSG ++ arguments
     → ((q : Request) → AsksMachMsg arguments q → (r ≡ Ok q) ⊎ (r ≡ Err NoMemory)) → (q : Request) → Asks content q
     → (r ≡ Ok q) ⊎ (r ≡ Err NoMemory)

@@ -1,4 +1,4 @@
--- How long the encodings of rows are.
+-- Lengths of encoded rows.
 use Rattle.std.proofs.Common.{◌≡◌, ℕ, ◌+◌, ◌*◌, ◌<◌, ◌≤◌, List, [], ◌∷◌, ◌++◌, length, take, flat_map, refl, subst, ap, arith, length-append, length-take}
 use Rattle.codes.specs.declared.kern_return.KernReturn.{KernReturn}
 use Rattle.ipc_model.specs.declared.plain_reply.NamedType.{NamedType}
@@ -19,7 +19,7 @@ length-words_text [] = refl
 length-words_text (n ∷ numbers) =
     let others = length-words_text numbers in omega (arith, others, length-append (word n) (flat_map word numbers))
 
--- rows of a reply whose encoding is short are short
+-- rows of a reply with a short encoding are short
 pub length-names_reply : (names : List NamedType) → length (reply_encoding (reply.Names names)) ≡ 12 + 8 * length names
 unfolding reply_encoding
 length-names_reply names = let row = length-names_encoding names in omega (arith, row)
@@ -43,7 +43,7 @@ few_members r members most is short =
     subst (λ (x : PlainReply). length (reply_encoding x) ≤ most) is short in
     omega (arith, few, length-members_reply members)
 
--- room for one more item, once some of a row have been added
+-- there is room for one more item of a row after the first i items
 pub words_room : (old content numbers : List ℕ) (i : ℕ) → content ≡ old ++ flat_map word (take i numbers)
     → i < length numbers → length content + 4 ≤ length old + 4 * length numbers
 words_room old content numbers i is less =

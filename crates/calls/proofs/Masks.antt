@@ -1,8 +1,8 @@
--- What is kept of a message, as masks are applied to it one by one.
+-- The canonical message, as its masks are applied one by one.
 use Rattle.std.proofs.Common.{◌≡◌, ℕ, zero, suc, ◌+◌, ◌<◌, ◌≤◌, min, List, [], ◌∷◌, length, take, drop, get_or, set, slice_index, bit_and, refl, ap, ◌∙◌, arith}
 use Rattle.ipc_model.specs.messages.Kept.{masked}
 
--- one more mask
+-- one more mask is applied
 masked_more : (masks bytes : List ℕ) (i v : ℕ) → i < length masks → i < length bytes
     → set (masked (take i masks) bytes) i (bit_and (get_or (masked (take i masks) bytes) i v) (get_or masks i 0))
     ≡ masked (take (suc i) masks) bytes
@@ -12,7 +12,7 @@ masked_more (m ∷ masks) (b ∷ bytes) zero v less within = refl
 masked_more (m ∷ masks) (b ∷ bytes) (suc i) v less within =
     ap (λ (l : List ℕ). bit_and b m ∷ l) (masked_more masks bytes i v (omega arith) (omega arith))
 
--- the same of a list that has been masked so far
+-- one more mask is applied to a list whose first i masks were applied
 pub kept_more : (masks bytes kept : List ℕ) (i v : ℕ) → kept ≡ masked (take i masks) bytes → i < length masks
     → i < length bytes
     → set kept i (bit_and (get_or kept i v) (get_or masks i 0)) ≡ masked (take (i + 1) masks) bytes
@@ -22,7 +22,7 @@ kept_more masks bytes kept i v so_far less within =
     ∙ masked_more masks bytes i v less within
     ∙ ap (λ (n : ℕ). masked (take n masks) bytes) next
 
--- as many masks as there are bytes
+-- all masks are applied once there are no more masks or no more bytes
 pub masked_all : (masks bytes : List ℕ) (n : ℕ) → min (length bytes) (length masks) ≤ n
     → masked (take n masks) bytes ≡ masked masks bytes
 masked_all [] bytes zero enough = refl

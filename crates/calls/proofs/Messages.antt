@@ -1,4 +1,4 @@
--- Sends and receives as a record has them.
+-- Sends and receives in records.
 use Rattle.std.proofs.Common.{◌≡◌, ℕ, ◌+◌, ◌<◌, ◌^◌, Bool, true, false, not, eqb, List, [], ◌++◌, drop, Option, Some, slice_index, refl, sym, ap, subst, ◌∙◌, arith}
 use Rattle.std.proofs.lemmas.Bool.Decides.{Decides-eqb}
 use Rattle.std.proofs.lemmas.Slice.Eq.{slice_eq-Decides}
@@ -20,7 +20,7 @@ false_of_not : (b : Bool) → not b ≡ true → b ≡ true → ⊥
 false_of_not true is same = cc
 false_of_not false is same = cc
 
--- what the comparison of bytes says
+-- byte strings in which no position differs are equal
 pub same_bytes : (xs ys : List ℕ) (differ : Bool) → differ ≡ not (pointwise eqb xs ys) → differ ≡ false → xs ≡ ys
 same_bytes xs ys differ is none =
     (slice_eq-Decides Decides-eqb xs ys (pointwise eqb xs ys) refl).0
@@ -31,13 +31,13 @@ other_bytes xs ys differ is some same =
     false_of_not (pointwise eqb xs ys) (sym is ∙ some)
     ((slice_eq-Decides Decides-eqb xs ys (pointwise eqb xs ys) refl).1 same)
 
--- what follows bytes is bytes
+-- the rest of bytes is bytes
 pub bytes_after : (bytes beyond : List ℕ) (n : ℕ) → AreBytes bytes → drop n bytes ≡ beyond → AreBytes beyond
 bytes_after bytes beyond n are is i =
     subst (λ (l : List ℕ). slice_index l i < 256) is
     (subst (λ (k : ℕ). k < 256) (sym (at_drop n bytes i)) (are (n + i)))
 
--- after the option of a receive comes a receive
+-- only a receive follows the option of a receive
 pub only_receipt : (large : Bool) (words : List ℕ) (r : Option PlainCall)
     → ((limit name : ℕ) (waited : Bool) → limit < 2 ^ 32 → name < 2 ^ 32
     → words ≡ word limit ++ (word name ++ word (number_of_bool waited))
@@ -54,7 +54,7 @@ only_receipt false words r only (call.Receive limit false name waited) fits numb
     only limit name waited fits.fits.0 fits.fits.1 (ap (λ (l : List ℕ). drop 4 l) is)
 only_receipt large words r only c fits number is = absurd (omega (arith, number))
 
--- a message in its kept form is kept unchanged
+-- a canonical message is its own canonical form
 message_of : PlainCall → List ℕ
 message_of (call.Send message) = message
 message_of c = []

@@ -10,7 +10,7 @@ use Rattle.ipc_model.specs.encodings.PlainCalls.{arguments_encoding}
 use Rattle.words.specs.WordLaws.{same_word}
 use Rattle.words.specs.Words.{word}
 
--- each of them is known
+-- every option that a record contains is known
 pub known_option : (option : ℕ) (words : List ℕ) (c : PlainCall) → option < 2 ^ 32 → number_of_call c ≡ MACH_MSG
     → word option ++ words ≡ arguments_encoding c
     → bit_and option (known_bits option_rows) ≡ option

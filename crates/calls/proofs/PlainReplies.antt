@@ -1,4 +1,4 @@
--- Replies by the content of their frames: a call has at most one with each content.
+-- Replies by the content of their frames: a call has at most one reply with each content.
 use Rattle.std.proofs.Common.{◌≡◌, ℕ, ◌<◌, ◌≤◌, ◌^◌, Bool, true, false, ◌&&◌, List, [], ◌++◌, length, drop, flat_map, Option, Some, None, refl, sym, ap, subst, ◌∙◌, arith, length-append}
 use Rattle.std.specs.Prelude.{◌≢◌, IfNone, IsTrue, not}
 use Rattle.codes.specs.declared.call_number.TheConstants.{MACH_MSG, MACH_PORT_NAMES, MACH_PORT_GET_SET_STATUS}
@@ -58,7 +58,7 @@ code-fits kern.RcvInSet = omega arith
 code-fits kern.RcvHeaderErrorKernel = omega arith
 code-fits kern.RcvHeaderErrorSpace = omega arith
 
--- a call that was done may have a record
+-- the reply of a call that was done may be recorded
 done_recorded : (r : PlainReply) → is_done r ≡ true → has_record call.SpaceDestroy r ≡ true
 done_recorded (reply.Refused number code) is = absurd cc
 done_recorded (reply.Message code size member message) is = absurd cc
@@ -71,7 +71,7 @@ one_result mine answer number results fits done is has =
     ap (λ (r : PlainReply). Some r) (reply_encoding_once call.SpaceDestroy call.SpaceDestroy mine answer fits has.fits
     (done_recorded mine done) (done_recorded answer has.done) (sym is ∙ has.text))
 
--- without results it is that the call was done
+-- without results the reply is the plain success
 pub nothing_done : (number : ℕ) (answer : PlainReply) → HasResults number [] answer → answer ≡ reply.Done number
 unfolding reply_encoding
 nothing_done number (reply.Refused n code) has = absurd (cc has.done)
@@ -91,13 +91,13 @@ not_both : (b : Bool) → b ≡ true → not b ≡ true → ⊥
 not_both true some plain = cc
 not_both false some plain = cc
 
--- a call that has results isn't done without them
+-- a call that has results isn't done without results
 pub none_without : (number : ℕ) (answer : PlainReply) → HasResults number [] answer → IsWellFormed answer
     → has_results number ≡ true → ⊥
 none_without number answer has well some =
     not_both (has_results number) some (subst IsWellFormed (nothing_done number answer has) well)
 
--- rows of names and of members
+-- the names or the members that a reply contains
 abbrev names_in : PlainReply → List NamedType
 names_in (reply.Names names) = names
 names_in r = []
@@ -120,7 +120,7 @@ one_members a b fits fits_too is =
     ap members_in (reply_encoding_once call.SpaceDestroy call.SpaceDestroy (reply.SetStatus a) (reply.SetStatus b) fits
     fits_too refl refl (ap (λ (l : List ℕ). done_encoding MACH_PORT_GET_SET_STATUS l) is))
 
--- what was read with what is left isn't a whole row
+-- bytes decoded so far and a rest that isn't a whole row aren't whole rows
 pub odd_names : (whole rest : List ℕ) (some all : List NamedType) → whole ≡ names_encoding some ++ rest
     → 0 < length rest → length rest < 8 → whole ≡ names_encoding all → ⊥
 odd_names whole rest some all is left short same =
@@ -149,7 +149,7 @@ odd_members whole rest some all is left short same =
       length-words_text all,
     ))
 
--- the number in front of a row is that of its items
+-- the number before a row is the length of the row
 pub counted_names : (results rows : List ℕ) (count : ℕ) (names all : List NamedType) → results ≡ word count ++ rows
     → count < 2 ^ 32 → rows ≡ names_encoding names → length all < 2 ^ 32
     → results ≡ word (length all) ++ names_encoding all → length names ≡ count
@@ -169,7 +169,7 @@ pub row_after : (results rows all : List ℕ) (count n : ℕ) → results ≡ wo
 row_after results rows all count n front fits fits_too is =
     (word_once count n rows all fits fits_too (sym front ∙ is)).1
 
--- the results of a call that asks for names, and of one that asks for members
+-- the results of calls that return names or members
 pub names_reported : (results : List ℕ) (answer : PlainReply) → HasResults MACH_PORT_NAMES results answer
     → 0 < length results
     → (names : List NamedType) × (answer ≡ reply.Names names) × FitsReply (reply.Names names)
@@ -194,12 +194,12 @@ members_reported results (reply.Message code size member message) has some = abs
 members_reported results (reply.Done n) has some = absurd (omega (arith, some, ap length has.text))
 members_reported results r has some = absurd (omega (arith, has.of_call))
 
--- what a reader that found nothing says at its exit
+-- a fact holds if nothing was found too
 pub at_none : {X P : Type 0} (r : Option X) → P → IfNone r P
 at_none (Some x) p = tt
 at_none None p = p
 
--- the code that stands after the number
+-- the code after a reply's number
 abbrev code_in : PlainReply → ℕ
 code_in (reply.Refused number code) = number_of code
 code_in (reply.Message code size member message) = number_of code
@@ -210,7 +210,7 @@ code_in-fits (reply.Refused number code) = code-fits code
 code_in-fits (reply.Message code size member message) = code-fits code
 code_in-fits r = omega arith
 
--- what stands after it
+-- the bytes after a reply's code
 abbrev behind_code : PlainReply → List ℕ
 behind_code r = drop 8 (reply_encoding r)
 
@@ -254,7 +254,7 @@ done_reported number results (reply.Message code size member message) fits other
 done_reported number results r fits other is =
     record { text = is.text; fits = is.fits; of_call = is.of_call; done = refl }
 
--- one with another code was refused
+-- a call other than mach_msg with another code was refused
 pub refusal_reported : (number : ℕ) (code : KernReturn) (results : List ℕ) (answer : PlainReply) → number < 2 ^ 32
     → number ≢ MACH_MSG → code ≢ kern.Success
     → Answers number (word number ++ (word (number_of code) ++ results)) answer
@@ -308,7 +308,7 @@ pub long_message : (code : KernReturn) (results : List ℕ) (answer : PlainReply
 long_message code results answer is =
     let other = message_reported code results answer is in omega (arith, ap length other.6)
 
--- what stands in front of a reply
+-- a reply has at least eight bytes: its number and its code
 pub long_reply_to : (n : ℕ) (content : List ℕ) (answer : PlainReply) → Answers n content answer → 8 ≤ length content
 long_reply_to n content answer is =
     omega (arith, ap length is.text, ap length (in_parts answer))
@@ -331,7 +331,7 @@ code_reported n number code results answer number_fits code_fits fits is =
     let known = code_of answer in
     (known.0, known.1 ∙ sym parts.1)
 
--- replies in records are such replies
+-- replies in records answer their calls
 own_done : (c : PlainCall) → is_recorded c ≡ true → has_no_results c ≡ true → not (has_results (number_of_call c)) ≡ true
 own_done (call.Attach space) recorded none = absurd (cc recorded)
 own_done call.Names recorded none = absurd (cc recorded)

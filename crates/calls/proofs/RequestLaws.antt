@@ -1,4 +1,4 @@
--- Calls of number 22, and replies to them.
+-- Calls of number 22 and their replies.
 use Rattle.std.proofs.Common.{◌≡◌, ◌≢◌, ◌⊎◌, ℕ, ◌<◌, ◌≤◌, ◌^◌, true, ◌==◌, List, [], ◌++◌, length, drop, Option, None, Some, Result, Ok, Err, IfOk, IfSome, IfErr, IsErrOf, OnErr, if◌then◌else◌, inl, inr, refl, sym, ap, subst, ◌∙◌, arith}
 use Rattle.std.specs.declared.alloc.AllocError.{AllocError}
 use Rattle.codes.specs.declared.call_number.TheConstants.{CONFINE, MACH_MSG, NUMBERED}
@@ -29,7 +29,7 @@ use Rattle.calls.specs.PlainReplies as plain
 use Rattle.calls.specs.Requests.{Asks, AsksAttempt, AsksNumbered, FitsMachMsg, MachMsg, Numbers, attempt_of, mach_msg_arguments, one_attempt}
 use Rattle.calls.proofs.PlainReplies.{in_parts}
 
--- fewer than four bytes after the number are no arguments of a call
+-- a call of number 22 with fewer than four bytes of arguments is Unnumberable
 pub short_call : (c : Call) (arguments : List ℕ) → length arguments < 4 → word NUMBERED ++ arguments ≡ call_encoding c
     → c ≡ Unnumberable
 short_call (Plain c) arguments short is = absurd (apart c arguments (sym is))
@@ -54,7 +54,7 @@ canonical_in : (numbered : NumberedCall) → IsCanonicalCall (Numbered numbered)
 unfolding call_in
 canonical_in numbered is = record { fits = is.fits.1; whole = is.whole; kept = ap call_in is.kept }
 
--- after a request stands the call that is numbered
+-- the content of the numbered call follows the request
 pub numbered_of : (c : Call) (arguments content : List ℕ) (n : ℕ) → n < 2 ^ 32 → IsCanonicalCall c
     → arguments ≡ word n ++ content → word NUMBERED ++ arguments ≡ call_encoding c
     → (k : PlainCall) × plain_calls.IsCanonicalCall k × (content ≡ plain_calls.call_encoding k)
@@ -77,13 +77,13 @@ long_plain : (c : PlainCall) → 4 ≤ length (plain_calls.call_encoding c)
 unfolding plain_calls.call_encoding
 long_plain c = omega arith
 
--- a call has its number in front
+-- the encoding of a call has at least the four bytes of its number
 pub long_call : (c : Call) → 4 ≤ length (call_encoding c)
 long_call (Plain c) = long_plain c
 long_call (Numbered numbered) = omega (arith, length-numbered numbered)
 long_call Unnumberable = omega arith
 
--- and one of another number than 22 is a plain one
+-- a call with a number other than 22 is a plain call
 pub plain_of : (c : Call) (number : ℕ) (arguments : List ℕ) → number < 2 ^ 32 → number ≢ NUMBERED
     → word number ++ arguments ≡ call_encoding c → (k : PlainCall) × (c ≡ Plain k)
 plain_of (Plain c) number arguments fits other is = (c, refl)
@@ -92,7 +92,7 @@ plain_of (Numbered numbered) number arguments fits other is =
 plain_of Unnumberable number arguments fits other is =
     absurd (other (word_once number NUMBERED arguments [] fits (omega arith) is).0)
 
--- what arguments ask for that were read
+-- the attempt that decoded arguments ask for
 pub attempt_found : (m : MachMsg) (arguments : List ℕ) (r : Result (Option PlainCall) AllocError) → FitsMachMsg m
     → arguments ≡ mach_msg_arguments m → m.timeout ≡ 0
     → IfOk r (λ found. found ≡ attempt_of m.option m.limit m.name m.message)
@@ -122,7 +122,7 @@ attempt_lacks m arguments (Err e) fits front zero is = (
   ),
 )
 
--- what the arguments of number 22 ask for, by what stands after the request
+-- the call that arguments of number 22 ask for, in terms of the bytes after the request
 abbrev pub AsksBehind : ℕ → List ℕ → Call → Type 0
 AsksBehind n content (Plain c) = ⊥
 AsksBehind n content (Numbered numbered) = (numbered.request ≡ n) × Numbers content numbered.call
@@ -152,7 +152,7 @@ long_behind n content Unnumberable is = is.0
 pub some_call : (found : Option PlainCall) (k c : PlainCall) → found ≡ Some k → found ≡ Some c → k ≡ c
 some_call found k c is same = cc
 
--- what was read is what is asked for
+-- the decoded call is the one that is asked for
 pub one_asked : (asks : Call) (n : ℕ) (content : List ℕ) (found : Option PlainCall) (k : PlainCall)
     → AsksBehind n content asks → found ≡ Some k → IfSome found (Numbers content)
     → ((c : PlainCall) → Numbers content c → found ≡ Some c) → Numbered (record { request = n; call = k }) ≡ asks
@@ -174,7 +174,7 @@ apart_numbers : (arguments others : List ℕ) → word MACH_MSG ++ arguments ≡
 apart_numbers arguments others same =
     absurd (omega (arith, (word_once MACH_MSG NUMBERED arguments others (omega arith) (omega arith) same).0))
 
--- what a frame of number 22 asks for is what its arguments ask for
+-- the request of a frame of number 22 is the call of its arguments
 pub asks_numbered : (content arguments : List ℕ) (q : Request) → content ≡ word NUMBERED ++ arguments → Asks content q
     → (c : Call) × AsksNumbered arguments c × (q ≡ request.One c)
 asks_numbered content arguments (request.One (Plain c)) front (other, fits, is) =
@@ -192,7 +192,7 @@ asks_numbered content arguments (request.Answered code) front (others, same, is)
 asks_numbered content arguments request.Confine front is =
     absurd (omega (arith, (word_once NUMBERED CONFINE arguments [] (omega arith) (omega arith) (sym front ∙ is)).0))
 
--- and the other way round
+-- the call of arguments of number 22 is the request of their frame
 pub asked_numbered : (content arguments : List ℕ) (c : Call) → content ≡ word NUMBERED ++ arguments
     → AsksNumbered arguments c → Asks content (request.One c)
 asked_numbered content arguments (Plain c) front is = absurd is
@@ -266,7 +266,7 @@ made_parts n inner (reply.Numbered a) fits is =
     )
 made_parts n inner (reply.Repeated a) fits is = absurd is.well_formed
 
--- the reply to the call that is numbered has its own number in front
+-- the reply to the numbered call begins with that call's number
 pub made_reply : (n number : ℕ) (inner rest : List ℕ) (answer : Reply) → n < 2 ^ 32 → number < 2 ^ 32
     → inner ≡ word number ++ rest → Answers NUMBERED (done_encoding NUMBERED (word n ++ inner)) answer
     → (r : PlainReply) × plain.Answers number inner r × (answer ≡ reply.Numbered (record { request = n; reply = r }))
@@ -284,7 +284,7 @@ long_made n inner answer fits is =
     let made = made_parts n inner answer fits is in
     omega (arith, ap length made.1.text, ap length (in_parts made.0))
 
--- a call other than mach_msg by its number and its arguments
+-- the number and the arguments of a call other than mach_msg
 pub other_parts : (number : ℕ) (arguments : List ℕ) (k : PlainCall) → number < 2 ^ 32 → number ≢ MACH_MSG
     → Numbers (word number ++ arguments) k
     → plain_calls.FitsCall k × (number_of_call k ≡ number) × (arguments ≡ arguments_encoding k)
@@ -308,7 +308,7 @@ other_numbers number arguments k other same front fits may =
       (λ i. word (sym same i) ++ front i),
     )
 
--- a mach_msg by its arguments
+-- the arguments of a mach_msg
 pub attempt_parts : (content arguments : List ℕ) (k : PlainCall) → content ≡ word MACH_MSG ++ arguments
     → Numbers content k → AsksAttempt arguments k
 unfolding plain_calls.call_encoding
@@ -326,7 +326,7 @@ pub attempt_lacking : (content arguments : List ℕ) (r : Result (Option PlainCa
 attempt_lacking content arguments (Ok found) front is = tt
 attempt_lacking content arguments (Err e) front is = (is.0, inl (arguments, front, is.1))
 
--- a content that isn't the reply to a numbered call that was made is a plain one
+-- a reply that isn't of number 22 is a plain reply
 pub own_reply : (number : ℕ) (content : List ℕ) (r : Result (Option Reply) AllocError)
     → ((a : PlainReply) → Answers number content (reply.Plain a) → IfOk r (λ found. found ≡ Some (reply.Plain a)))
     → ((n : ℕ) (inner : List ℕ) → n < 2 ^ 32 → content ≡ done_encoding NUMBERED (word n ++ inner) → ⊥)
@@ -344,7 +344,7 @@ no_call_confines : (c : PlainCall) → number_of_call c ≡ CONFINE → ⊥
 no_call_confines (call.Attach space) is = absurd (omega (arith, is))
 no_call_confines c is = absurd (omega (arith, is))
 
--- what a frame of number 23 asks for: it has no arguments
+-- the request of a frame of number 23, which has no arguments
 asks_confine : (content arguments : List ℕ) (q : Request) → content ≡ word CONFINE ++ arguments → Asks content q
     → (q ≡ request.Confine) × (arguments ≡ [])
 unfolding plain_calls.call_encoding

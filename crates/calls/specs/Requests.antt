@@ -1,4 +1,4 @@
--- What a frame asks for.
+-- The requests of frames.
 use Rattle.std.specs.Prelude.{◌≡◌, ◌≢◌, ◌⊎◌, ℕ, ◌<◌, ◌≤◌, ◌^◌, Bool, true, false, IsTrue, ◌==◌, ◌||◌, List, ◌++◌, length, Option, None, Some, bit_and, if◌then◌else◌}
 use Rattle.codes.specs.declared.call_number.TheConstants.{CONFINE, MACH_MSG, NUMBERED}
 use Rattle.codes.specs.declared.kern_return.KernReturn.TheVariants.{Success, InvalidArgument}
@@ -13,8 +13,8 @@ use Rattle.calls.specs.declared.request.MessageRequest.{MessageRequest}
 use Rattle.calls.specs.declared.request.Request.{Request}
 use Rattle.calls.specs.declared.request.Request.TheVariants as request
 
--- The options of mach_msg that are known: MACH_SEND_MSG, MACH_RCV_MSG, MACH_SEND_TIMEOUT, MACH_RCV_TIMEOUT and
--- MACH_RCV_LARGE, each a bit. (Kernel Interfaces, mach_msg.)
+-- The known options of mach_msg, each one bit: MACH_SEND_MSG, MACH_RCV_MSG, MACH_SEND_TIMEOUT, MACH_RCV_TIMEOUT and
+-- MACH_RCV_LARGE. (Kernel Interfaces, mach_msg.)
 abbrev pub send_msg : ℕ
 send_msg = 0x1
 
@@ -33,7 +33,7 @@ rcv_large = 0x800
 abbrev pub known_options : ℕ
 known_options = 0x913
 
--- each of these bits is among the options
+-- all bits of this option are set
 abbrev pub has_option : ℕ → ℕ → Bool
 has_option option bit = bit_and option bit == bit
 
@@ -55,7 +55,7 @@ pub record FitsMachMsg (m : MachMsg) : Type 0 where
 abbrev pub mach_msg_arguments : MachMsg → List ℕ
 mach_msg_arguments m = word m.option ++ (word m.limit ++ (word m.name ++ (word m.timeout ++ m.message)))
 
--- The send and the receive that it asks for, in this order, and how long each may wait.
+-- The send and the receive that a mach_msg asks for, in this order, and their timeouts.
 abbrev pub asked_send : ℕ → List ℕ → Option Call
 asked_send option message = if has_option option send_msg then Some (Plain (call.Send message)) else None
 
@@ -75,7 +75,8 @@ message_request m = record {
   receive_timeout = asked_timeout m.option rcv_timeout m.timeout;
 }
 
--- An option with an unknown bit is answered by KERN_INVALID_ARGUMENT, and one that asks for nothing by KERN_SUCCESS.
+-- The answer to an unknown option is KERN_INVALID_ARGUMENT. The answer to a request that neither sends nor receives is
+-- KERN_SUCCESS.
 unfoldable pub asked : MachMsg → Request
 asked m =
     if bit_and m.option known_options == m.option
@@ -83,12 +84,12 @@ asked m =
     else request.Answered Success)
     else request.Answered InvalidArgument
 
--- the arguments of mach_msg ask for this
+-- these arguments of mach_msg ask for this request
 abbrev pub AsksMachMsg : List ℕ → Request → Type 0
 AsksMachMsg arguments asks = (m : MachMsg) × FitsMachMsg m × (arguments ≡ mach_msg_arguments m) × (asks ≡ asked m)
 
 -- The options of a mach_msg that may be numbered, each for one attempt: to send, to receive, and to receive with
--- MACH_RCV_LARGE. All have their timeout, which is 0.
+-- MACH_RCV_LARGE. Each includes its timeout, which must be 0.
 abbrev pub send_attempt : ℕ
 send_attempt = 0x11
 
@@ -98,7 +99,7 @@ receive_attempt = 0x102
 abbrev pub large_attempt : ℕ
 large_attempt = 0x902
 
--- the one attempt that a mach_msg asks for, if it may be numbered
+-- the one attempt that a mach_msg asks for, or None if it may not be numbered
 abbrev pub attempt_of : ℕ → ℕ → ℕ → List ℕ → Option PlainCall
 attempt_of option limit name message =
     if option == send_attempt then Some (call.Send message)
@@ -109,7 +110,7 @@ attempt_of option limit name message =
 abbrev pub one_attempt : MachMsg → Option PlainCall
 one_attempt m = if m.timeout == 0 then attempt_of m.option m.limit m.name m.message else None
 
--- the arguments of mach_msg ask for this attempt
+-- these arguments of mach_msg ask for this one attempt
 abbrev pub AsksAttempt : List ℕ → PlainCall → Type 0
 AsksAttempt arguments c =
     (m : MachMsg) × FitsMachMsg m × (arguments ≡ mach_msg_arguments m) × (one_attempt m ≡ Some c)
@@ -121,8 +122,8 @@ Numbers content c =
     ((arguments : List ℕ) × (content ≡ word MACH_MSG ++ arguments) × AsksAttempt arguments c)
     ⊎ ((number_of_call c ≢ MACH_MSG) × (may_be_numbered c ≡ true) × FitsCall c × (content ≡ call_encoding c))
 
--- The arguments of number 22 ask for this: after the request stands the content of the call's frame. It is one that
--- may be numbered, or else one of any four bytes or more.
+-- The arguments of number 22 ask for this call: a request is followed by the content of the numbered call's frame. A
+-- call that may not be numbered can have any content of four bytes or more.
 abbrev pub AsksNumbered : List ℕ → Call → Type 0
 AsksNumbered arguments (Plain c) = ⊥
 AsksNumbered arguments (Numbered numbered) =
@@ -132,7 +133,7 @@ AsksNumbered arguments Unnumberable =
     (request : ℕ) × (content : List ℕ) × (request < 2 ^ 32) × (arguments ≡ word request ++ content)
     × (4 ≤ length content) × ((c : PlainCall) → Numbers content c → ⊥)
 
--- A frame of this content asks for this. The one that confines its connection has no arguments.
+-- A frame with this content asks for this request. The request to confine a connection has no arguments.
 abbrev pub Asks : List ℕ → Request → Type 0
 Asks content (request.One (Plain c)) = (number_of_call c ≢ MACH_MSG) × FitsCall c × (content ≡ call_encoding c)
 Asks content (request.One c) =
@@ -140,11 +141,11 @@ Asks content (request.One c) =
 Asks content request.Confine = content ≡ word CONFINE
 Asks content asks = (arguments : List ℕ) × (content ≡ word MACH_MSG ++ arguments) × AsksMachMsg arguments asks
 
--- the arguments of a mach_msg that sends
+-- arguments of a mach_msg that sends
 abbrev pub IsSend : List ℕ → Type 0
 IsSend arguments = (m : MachMsg) × (arguments ≡ mach_msg_arguments m) × IsTrue (has_option m.option send_msg)
 
--- a frame of this content asks for a numbered send
+-- a frame with this content asks for a numbered send
 abbrev pub IsNumberedSend : List ℕ → Type 0
 IsNumberedSend content =
     (numbered : ℕ) × (message : List ℕ)

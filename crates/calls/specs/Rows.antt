@@ -1,4 +1,4 @@
--- Rows of results in bytes.
+-- Rows of results as bytes.
 use Rattle.std.specs.Prelude.{ℕ, List, ◌++◌, flat_map}
 use Rattle.ipc_model.specs.declared.plain_reply.NamedType.{NamedType}
 use Rattle.words.specs.Words.{word}

@@ -15,7 +15,7 @@ use codes::{
 };
 use ipc_model::PlainCall;
 
-/// The call with this number that has no arguments.
+/// Returns the call with this number that has no arguments.
 fn call_of_none(number: u32) -> Option<PlainCall>
     ensures found { IfSome result (λ call. (number_of_call call ≡ number) × (arguments_encoding call ≡ [])
         × IsCanonicalCall call) }
@@ -28,7 +28,7 @@ fn call_of_none(number: u32) -> Option<PlainCall>
     }
 }
 
-/// The call with this number that has this argument.
+/// Returns the call with this number and this one argument.
 fn call_of_one(number: u32, a: u32) -> Option<PlainCall>
     ensures found { IfSome result (λ call. (number_of_call call ≡ number) × (arguments_encoding call ≡ word a)
         × IsCanonicalCall call) }
@@ -46,7 +46,7 @@ fn call_of_one(number: u32, a: u32) -> Option<PlainCall>
     }
 }
 
-/// The call with this number that has these two arguments.
+/// Returns the call with this number and these two arguments.
 fn call_of_two(number: u32, a: u32, b: u32) -> Option<PlainCall>
     ensures found { IfSome result (λ call. (number_of_call call ≡ number) × (arguments_encoding call ≡ word a ++ word b)
         × IsCanonicalCall call) }
@@ -75,7 +75,7 @@ fn call_of_two(number: u32, a: u32, b: u32) -> Option<PlainCall>
     }
 }
 
-/// The call with this number that has these three arguments.
+/// Returns the call with this number and these three arguments.
 fn call_of_three(number: u32, a: u32, b: u32, c: u32) -> Option<PlainCall>
     ensures found { IfSome result (λ call. (number_of_call call ≡ number)
         × (arguments_encoding call ≡ word a ++ (word b ++ word c)) × IsCanonicalCall call) }
@@ -96,7 +96,7 @@ fn call_of_three(number: u32, a: u32, b: u32, c: u32) -> Option<PlainCall>
     }
 }
 
-/// The call whose number and arguments these are, of any number but that of `mach_msg`.
+/// Returns the call with this number and these arguments. The number isn't that of `mach_msg`.
 pub(crate) fn read_arguments(number: u32, arguments: &[u8]) -> Option<PlainCall>
     requires { number ≢ MACH_MSG }
     ensures found { IfSome result (λ call. (number_of_call call ≡ number) × (arguments.now ≡ arguments_encoding call)

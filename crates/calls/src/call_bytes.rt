@@ -16,8 +16,8 @@ use ipc_model::{Call, NumberedCall};
 use std::alloc::{AllocError, Global};
 use words::take_word;
 
-/// Adds the number and the arguments of a call. If an allocation fails, some of them may have been added. It takes no
-/// memory if there is room.
+/// Appends the number and the arguments of a call. If an allocation fails, part of them may have been appended. It
+/// allocates nothing if there is room.
 pub fn push_call(out: &mut Vec<u8>, call: &Call) -> Result<(), AllocError>
     ensures ok { OnOk result (out.new.items ≡ out.old.items ++ call_encoding call.now) }
     ensures full { OnErr result (vec_capacity out.old < vec_len out.old + length (call_encoding call.now)) }
@@ -33,8 +33,8 @@ pub fn push_call(out: &mut Vec<u8>, call: &Call) -> Result<(), AllocError>
     }
 }
 
-/// Adds the number and the arguments of a call as a record keeps it: of a send the message with 0 in place of what a
-/// send ignores. If an allocation fails, some of them may have been added. It takes no memory if there is room.
+/// Appends the canonical encoding of a call, which records contain: in a send's message each bit that a send ignores is
+/// 0. If an allocation fails, part of it may have been appended. It allocates nothing if there is room.
 pub fn push_canonical_call(out: &mut Vec<u8>, call: &Call) -> Result<(), AllocError>
     ensures ok { OnOk result (out.new.items ≡ out.old.items ++ call_encoding (canonical_call call.now)) }
     ensures full { OnErr result (vec_capacity out.old < vec_len out.old + length (call_encoding call.now)) }
@@ -50,7 +50,7 @@ pub fn push_canonical_call(out: &mut Vec<u8>, call: &Call) -> Result<(), AllocEr
     }
 }
 
-/// The call of number 22 whose arguments in a record these are.
+/// Decodes the arguments of a call of number 22 in a record.
 fn read_numbered_call(alloc: Global, arguments: &[u8]) -> Result<Option<Call>, AllocError>
     ensures found { IfOk result (λ found. IfSome found
         (λ call. (word NUMBERED ++ arguments.now ≡ call_encoding call) × IsCanonicalCall call)) }
@@ -66,7 +66,7 @@ fn read_numbered_call(alloc: Global, arguments: &[u8]) -> Result<Option<Call>, A
     Ok(Some(Call::Numbered(NumberedCall { request, call })))
 }
 
-/// The call of number 22 in a record whose arguments are these, fewer than four bytes.
+/// Decodes fewer than four bytes of arguments of a call of number 22 in a record.
 fn unnumberable_of(arguments: &[u8]) -> Option<Call>
     requires { length arguments.now < 4 }
     ensures found { IfSome result (λ call. (word NUMBERED ++ arguments.now ≡ call_encoding call)
@@ -81,7 +81,7 @@ fn unnumberable_of(arguments: &[u8]) -> Option<Call>
     }
 }
 
-/// The call with a number of its own that these bytes encode, if they encode one as a record has it.
+/// Decodes a call in a record that isn't numbered: one with a number other than 22.
 fn read_own_call(alloc: Global, content: &[u8]) -> Result<Option<Call>, AllocError>
     ensures found { IfOk result (λ found. IfSome found
         (λ call. (content.now ≡ call_encoding call) × IsCanonicalCall call)) }
@@ -95,8 +95,8 @@ fn read_own_call(alloc: Global, content: &[u8]) -> Result<Option<Call>, AllocErr
     }
 }
 
-/// The call that these bytes encode, if they encode a call as a record has it. It can run out of memory only for the
-/// message of a send.
+/// Decodes a call in a record. Returns `None` if the bytes aren't a canonical encoding. It can run out of memory only
+/// for the message of a send.
 pub fn read_call(alloc: Global, content: &[u8]) -> Result<Option<Call>, AllocError>
     ensures found { IfOk result (λ found. IfSome found
         (λ call. (content.now ≡ call_encoding call) × IsCanonicalCall call)) }

@@ -4,13 +4,13 @@ ghost use Rattle.ipc_model.specs.messages.Kept.{canonical_message};
 
 use std::alloc::{AllocError, Global};
 
-/// The bits of a message's first bytes that a send uses: of the word of bits (`msgh_bits`) the dispositions and the
-/// complex bit, none of the words of size and sequence number, and all of the two words of names between them.
+/// The bits of a message's first bytes that a send uses. In the word of bits (`msgh_bits`) these are the dispositions
+/// and the complex bit. The words of size and sequence number have none; both words of names have all.
 const USED_BITS: [u8; 20] = [
     0xff, 0xff, 0, 0x80, 0, 0, 0, 0, 0xff, 0xff, 0xff, 0xff, 0xff, 0xff, 0xff, 0xff, 0, 0, 0, 0,
 ];
 
-/// Makes a message what a record keeps of it: with 0 in place of what a send ignores.
+/// Makes a message canonical: sets each bit that a send ignores to 0.
 #[tactic(auto, unfolding(ipc_model::specs::messages::Kept::canonical_message))]
 fn clear_ignored(message: &mut [u8])
     ensures { message.new ≡ canonical_message message.old }
@@ -20,7 +20,7 @@ fn clear_ignored(message: &mut [u8])
     }
 }
 
-/// Makes the message that stands at this place, up to the end, what a record keeps of it. It takes no memory.
+/// Makes the message from offset `at` to the end canonical. It allocates nothing.
 pub(crate) fn make_canonical(out: &mut Vec<u8>, at: usize)
     requires { at ≤ length out.old.items }
     ensures message { out.new.items ≡ take at out.old.items ++ canonical_message (drop at out.old.items) }
@@ -30,7 +30,7 @@ pub(crate) fn make_canonical(out: &mut Vec<u8>, at: usize)
     clear_ignored(message);
 }
 
-/// The message as a record keeps it.
+/// Returns a canonical copy of the message.
 pub(crate) fn canonical_message_of(alloc: Global, message: &[u8]) -> Result<Vec<u8>, AllocError>
     ensures { IfOk result (λ kept. kept.items ≡ canonical_message message.now) }
 {

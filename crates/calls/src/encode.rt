@@ -21,7 +21,7 @@ use codes::{
 use ipc_model::{NamedType, PlainCall, PlainReply, ReceiveStatus, RightKind};
 use std::alloc::AllocError;
 
-/// Adds two numbers, as `push_words` does.
+/// Appends two words, as `push_words` does.
 fn push_two(out: &mut Vec<u8>, a: u32, b: u32) -> Result<(), AllocError>
     ensures ok { OnOk result (out.new.items ≡ out.old.items ++ (word a ++ word b)) }
     ensures full { OnErr result (vec_capacity out.old < vec_len out.old + length (word a ++ word b)) }
@@ -30,7 +30,7 @@ fn push_two(out: &mut Vec<u8>, a: u32, b: u32) -> Result<(), AllocError>
     push_words(out, &[a, b])
 }
 
-/// Adds three numbers, as `push_words` does.
+/// Appends three words, as `push_words` does.
 fn push_three(out: &mut Vec<u8>, a: u32, b: u32, c: u32) -> Result<(), AllocError>
     ensures ok { OnOk result (out.new.items ≡ out.old.items ++ (word a ++ (word b ++ word c))) }
     ensures full { OnErr result (vec_capacity out.old < vec_len out.old + length (word a ++ (word b ++ word c))) }
@@ -39,7 +39,7 @@ fn push_three(out: &mut Vec<u8>, a: u32, b: u32, c: u32) -> Result<(), AllocErro
     push_words(out, &[a, b, c])
 }
 
-/// Adds four numbers, as `push_words` does.
+/// Appends four words, as `push_words` does.
 fn push_four(out: &mut Vec<u8>, a: u32, b: u32, c: u32, d: u32) -> Result<(), AllocError>
     ensures ok { OnOk result (out.new.items ≡ out.old.items ++ (word a ++ (word b ++ (word c ++ word d)))) }
     ensures full { OnErr result (vec_capacity out.old < vec_len out.old + length (word a ++ (word b ++ (word c ++ word d)))) }
@@ -48,7 +48,7 @@ fn push_four(out: &mut Vec<u8>, a: u32, b: u32, c: u32, d: u32) -> Result<(), Al
     push_words(out, &[a, b, c, d])
 }
 
-/// Adds the number and the arguments of a send.
+/// Appends the number and the arguments of a send.
 #[tactic(auto, unfolding(ipc_model::specs::encodings::PlainCalls::call_encoding))]
 fn push_send(out: &mut Vec<u8>, message: &[u8]) -> Result<(), AllocError>
     ensures ok { OnOk result (out.new.items ≡ out.old.items ++ call_encoding (call.Send message.now)) }
@@ -59,8 +59,7 @@ fn push_send(out: &mut Vec<u8>, message: &[u8]) -> Result<(), AllocError>
     out.extend_from_slice(message)
 }
 
-/// Adds the number and the arguments of a send as a record keeps them: the message with 0 in place of what a send
-/// ignores.
+/// Appends the number and the arguments of a send with a canonical message.
 #[tactic(auto, unfolding(ipc_model::specs::encodings::PlainCalls::call_encoding))]
 fn push_canonical_send(out: &mut Vec<u8>, message: &[u8]) -> Result<(), AllocError>
     ensures ok { OnOk result (out.new.items ≡ out.old.items ++ call_encoding (call.Send (canonical_message message.now))) }
@@ -74,8 +73,8 @@ fn push_canonical_send(out: &mut Vec<u8>, message: &[u8]) -> Result<(), AllocErr
     Ok(())
 }
 
-/// Adds the number and the arguments of a call. If an allocation fails, some of them may have been added. It takes no
-/// memory if there is room.
+/// Appends the number and the arguments of a call. If an allocation fails, part of them may have been appended. It
+/// allocates nothing if there is room.
 #[tactic(auto, unfolding(ipc_model::specs::encodings::PlainCalls::call_encoding))]
 pub fn push_plain_call(out: &mut Vec<u8>, call: &PlainCall) -> Result<(), AllocError>
     ensures ok { OnOk result (out.new.items ≡ out.old.items ++ call_encoding call.now) }
@@ -178,8 +177,8 @@ pub fn push_plain_call(out: &mut Vec<u8>, call: &PlainCall) -> Result<(), AllocE
     }
 }
 
-/// Adds the number and the arguments of a call as a record keeps it: of a send the message with 0 in place of what a
-/// send ignores. If an allocation fails, some of them may have been added. It takes no memory if there is room.
+/// Appends the canonical encoding of a call. If an allocation fails, part of it may have been appended. It allocates
+/// nothing if there is room.
 #[tactic(auto, unfolding(ipc_model::specs::encodings::PlainCalls::call_encoding))]
 pub(crate) fn push_canonical_plain_call(
     out: &mut Vec<u8>,
@@ -195,14 +194,14 @@ pub(crate) fn push_canonical_plain_call(
     push_canonical_send(out, message.as_slice())
 }
 
-/// A flag as a word.
+/// Returns 1 for true and 0 for false.
 fn bool_number(flag: bool) -> u32
     ensures { result ≡ number_of_bool flag }
 {
     flag as u32
 }
 
-/// Adds names with their type bits, after their count.
+/// Appends the number of the names, then each name with its type bits.
 fn push_names(out: &mut Vec<u8>, names: &[NamedType]) -> Result<(), AllocError>
     requires { length names.now < 2 ^ 32 }
     ensures ok { OnOk result (out.new.items ≡ out.old.items ++ (word (length names.now) ++ names_encoding names.now)) }
@@ -216,7 +215,7 @@ fn push_names(out: &mut Vec<u8>, names: &[NamedType]) -> Result<(), AllocError>
     Ok(())
 }
 
-/// The words of the state of a port in a reply.
+/// Returns the words of a port's state in a reply.
 pub(crate) fn status_words(status: &ReceiveStatus) -> [u32; 9]
     ensures { flat_map word result ≡ status_encoding status.now }
 {
@@ -233,7 +232,7 @@ pub(crate) fn status_words(status: &ReceiveStatus) -> [u32; 9]
     ]
 }
 
-/// Adds the reply with the state of a port.
+/// Appends the reply with a port's state.
 fn push_status(out: &mut Vec<u8>, status: &ReceiveStatus) -> Result<(), AllocError>
     ensures ok { OnOk result (out.new.items ≡ out.old.items
         ++ done_encoding MACH_PORT_GET_RECEIVE_STATUS (status_encoding status.now)) }
@@ -245,8 +244,8 @@ fn push_status(out: &mut Vec<u8>, status: &ReceiveStatus) -> Result<(), AllocErr
     push_words(out, &status_words(status))
 }
 
-/// Adds the number, the code and the results of a reply. If an allocation fails, some of them may have been added. It
-/// takes no memory if there is room.
+/// Appends the number, the code and the results of a reply. If an allocation fails, part of them may have been
+/// appended. It allocates nothing if there is room.
 #[tactic(auto, unfolding(ipc_model::specs::encodings::PlainCalls::reply_encoding))]
 pub(crate) fn push_plain_reply(out: &mut Vec<u8>, reply: &PlainReply) -> Result<(), AllocError>
     requires { length (reply_encoding reply.now) < 2 ^ 32 }

@@ -12,7 +12,7 @@ use codes::{
 use ipc_model::{NamedType, PlainReply, ReceiveStatus};
 use wire::Frame;
 
-/// Adds numbers of four bytes.
+/// Appends words to the frame.
 fn put_words(frame: &mut Frame, numbers: &[u32])
     requires room { length frame.old.content + 4 * length numbers.now ≤ frame.old.room }
     requires limit { length frame.old.content + 4 * length numbers.now ≤ MAX_FRAME_CONTENT }
@@ -25,7 +25,7 @@ fn put_words(frame: &mut Frame, numbers: &[u32])
     }
 }
 
-/// Makes this a frame with the numbers that stand in front, and then a call's number.
+/// Replaces the frame by the words of `front` and a call's number.
 fn start_after(frame: &mut Frame, front: &[u32], number: u32)
     requires room { MAX_FRAME_CONTENT ≤ frame.old.room }
     requires limit { 4 + 4 * length front.now ≤ MAX_FRAME_CONTENT }
@@ -41,7 +41,7 @@ fn start_after(frame: &mut Frame, front: &[u32], number: u32)
     frame.put_word(number);
 }
 
-/// Makes this a frame with the numbers that stand in front, and then a call's number, a code and these numbers.
+/// Replaces the frame by the words of `front`, a call's number, a code and the words of `numbers`.
 fn start_reply(frame: &mut Frame, front: &[u32], number: u32, code: u32, numbers: &[u32])
     requires room { MAX_FRAME_CONTENT ≤ frame.old.room }
     requires limit { 8 + 4 * length front.now + 4 * length numbers.now ≤ MAX_FRAME_CONTENT }
@@ -55,7 +55,7 @@ fn start_reply(frame: &mut Frame, front: &[u32], number: u32, code: u32, numbers
     put_words(frame, numbers);
 }
 
-/// Adds names with their type bits.
+/// Appends each name with its type bits.
 fn put_names(frame: &mut Frame, names: &[NamedType])
     requires room { length frame.old.content + 8 * length names.now ≤ frame.old.room }
     requires limit { length frame.old.content + 8 * length names.now ≤ MAX_FRAME_CONTENT }
@@ -67,7 +67,7 @@ fn put_names(frame: &mut Frame, names: &[NamedType])
     }
 }
 
-/// Makes this the frame of the state of a port, after the numbers that stand in front.
+/// Replaces the frame by the words of `front` and the reply with a port's state.
 fn start_status(frame: &mut Frame, front: &[u32], status: &ReceiveStatus)
     requires room { MAX_FRAME_CONTENT ≤ frame.old.room }
     requires limit { 44 + 4 * length front.now ≤ MAX_FRAME_CONTENT }
@@ -84,7 +84,7 @@ fn start_status(frame: &mut Frame, front: &[u32], status: &ReceiveStatus)
     );
 }
 
-/// Writes a plain reply into a frame, after the numbers that stand in front. It takes no memory.
+/// Replaces the frame by the words of `front` and a plain reply. It allocates nothing.
 #[tactic(auto, unfolding(ipc_model::specs::encodings::PlainCalls::reply_encoding))]
 pub(crate) fn put_plain_reply(front: &[u32], reply: &PlainReply, frame: &mut Frame)
     requires room { MAX_FRAME_CONTENT ≤ frame.old.room }

@@ -1,4 +1,4 @@
-//! Calls and replies as bytes and as frames, in one canonical encoding each.
+//! The canonical encodings of calls and replies, as bytes and as frames.
 #![tactic(auto)]
 
 mod arguments;

@@ -13,15 +13,16 @@ use ipc_model::{Call, NumberedCall, PlainCall, Sequence};
 use std::alloc::{AllocError, Global};
 use words::take_word;
 
-/// The options of the attempts that may be numbered: `SEND` or `RECEIVE`, each with its timeout, and `RECEIVE` with
-/// `LARGE` too.
+/// The options of attempts that may be numbered: `SEND` or `RECEIVE` with its timeout, or `RECEIVE` with its timeout
+/// and `LARGE`.
 const SEND_ATTEMPT: u32 = 0x11;
 
 const RECEIVE_ATTEMPT: u32 = 0x102;
 
 const LARGE_ATTEMPT: u32 = 0x902;
 
-/// The one attempt at a send or a receive that a `mach_msg` with a timeout of 0 asks for, if it may be numbered.
+/// Returns the one attempt to send or to receive that a `mach_msg` with a timeout of 0 asks for, or `None` if it may
+/// not be numbered.
 fn attempt_of(
     alloc: Global,
     option: u32,
@@ -47,7 +48,7 @@ fn attempt_of(
     }
 }
 
-/// The attempt that these arguments of `mach_msg` ask for, if it may be numbered.
+/// Decodes the arguments of a `mach_msg` that may be numbered.
 fn read_attempt(alloc: Global, arguments: &[u8]) -> Result<Option<PlainCall>, AllocError>
     ensures found { IfOk result (λ found. IfSome found (AsksAttempt arguments.now)) }
     ensures only { (c : PlainCall) → AsksAttempt arguments.now c → IfOk result (λ found. found ≡ Some c) }
@@ -62,7 +63,7 @@ fn read_attempt(alloc: Global, arguments: &[u8]) -> Result<Option<PlainCall>, Al
     attempt_of(alloc, option, limit, name, message)
 }
 
-/// The call other than `mach_msg` with this number and these arguments, if it may be numbered.
+/// Decodes a call that may be numbered, other than `mach_msg`.
 fn read_other(number: u32, arguments: &[u8]) -> Option<PlainCall>
     requires { number ≢ MACH_MSG }
     ensures found { IfSome result (Numbers (word number ++ arguments.now)) }
@@ -77,7 +78,7 @@ fn read_other(number: u32, arguments: &[u8]) -> Option<PlainCall>
     Some(call)
 }
 
-/// The call that this content of a frame asks for, if it may be numbered.
+/// Decodes the content of the frame of a call that may be numbered.
 fn read_numberable(alloc: Global, content: &[u8]) -> Result<Option<PlainCall>, AllocError>
     ensures found { IfOk result (λ found. IfSome found (Numbers content.now)) }
     ensures only { (c : PlainCall) → Numbers content.now c → IfOk result (λ found. found ≡ Some c) }
@@ -93,7 +94,7 @@ fn read_numberable(alloc: Global, content: &[u8]) -> Result<Option<PlainCall>, A
     }
 }
 
-/// What these arguments of number 22 ask for. `NoMemory`, only for a send: out of memory for its message.
+/// Decodes the arguments of number 22. `NoMemory`: out of memory for the message of a send.
 pub(crate) fn read_numbered(alloc: Global, arguments: &[u8]) -> Result<Call, CallFault>
     ensures found { IfOk result (AsksNumbered arguments.now) }
     ensures only { (asks : Call) → AsksNumbered arguments.now asks

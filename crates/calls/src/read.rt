@@ -15,7 +15,7 @@ use ipc_model::{PlainCall, Sequence, is_message_size};
 use std::alloc::{AllocError, Global};
 use words::take_word;
 
-/// The flag of a number that is 0 or 1.
+/// Returns true for 1, false for 0 and `None` for another number.
 fn flag_of(number: u32) -> Option<bool>
     ensures found { IfSome result (λ flag. number ≡ number_of_bool flag) }
     ensures none { IfNone result ((number ≢ 0) × (number ≢ 1)) }
@@ -27,7 +27,7 @@ fn flag_of(number: u32) -> Option<bool>
     }
 }
 
-/// A receive as a record has it, after its option.
+/// Decodes the arguments of a receive in a record, after its option.
 fn read_receive(large: bool, words: &[u8]) -> Option<PlainCall>
     ensures found { IfSome result (λ call. (word (receive_option large) ++ words.now ≡ arguments_encoding call)
         × (number_of_call call ≡ MACH_MSG) × IsCanonicalCall call) }
@@ -45,7 +45,7 @@ fn read_receive(large: bool, words: &[u8]) -> Option<PlainCall>
     })
 }
 
-/// What stands after three numbers that are 0.
+/// Returns the bytes after three words that are 0.
 fn after_zeros(bytes: &[u8]) -> Option<&[u8]>
     ensures found { IfSome result (λ beyond. bytes.now ≡ word 0 ++ (word 0 ++ (word 0 ++ beyond.now))) }
     ensures none { IfNone result ((beyond : List ℕ) → bytes.now ≡ word 0 ++ (word 0 ++ (word 0 ++ beyond)) → ⊥) }
@@ -56,7 +56,7 @@ fn after_zeros(bytes: &[u8]) -> Option<&[u8]>
     }
 }
 
-/// A send as a record has it, after its option.
+/// Decodes the arguments of a send in a record, after its option.
 fn read_send(alloc: Global, words: &[u8]) -> Result<Option<PlainCall>, AllocError>
     ensures found { IfOk result (λ found. IfSome found (λ call. (word 1 ++ words.now ≡ arguments_encoding call)
         × (number_of_call call ≡ MACH_MSG) × IsCanonicalCall call)) }
@@ -78,7 +78,7 @@ fn read_send(alloc: Global, words: &[u8]) -> Result<Option<PlainCall>, AllocErro
     Ok(Some(PlainCall::Send { message }))
 }
 
-/// The send or the receive whose arguments in a record these are.
+/// Decodes the arguments of a send or a receive in a record.
 fn read_message_call(alloc: Global, arguments: &[u8]) -> Result<Option<PlainCall>, AllocError>
     ensures found { IfOk result (λ found. IfSome found (λ call. (arguments.now ≡ arguments_encoding call)
         × (number_of_call call ≡ MACH_MSG) × IsCanonicalCall call)) }
@@ -101,8 +101,8 @@ fn read_message_call(alloc: Global, arguments: &[u8]) -> Result<Option<PlainCall
     }
 }
 
-/// The call that these bytes encode, if they encode a call as a record has it. It can run out of memory only for the
-/// message of a send.
+/// Decodes a plain call in a record. Returns `None` if the bytes aren't a canonical encoding. It can run out of memory
+/// only for the message of a send.
 #[tactic(auto, unfolding(ipc_model::specs::encodings::PlainCalls::call_encoding))]
 pub(crate) fn read_plain_call(
     alloc: Global,

@@ -5,7 +5,8 @@ ghost use Rattle.ipc_model.specs.encodings.PlainCalls.{receive_option};
 use bitflags::Flags;
 use codes::MessageOptions;
 
-/// The options of a receive in a record: `RECEIVE`, and `LARGE` as well if a message that is too large stays queued.
+/// Returns the options of a receive in a record: `RECEIVE`, and also `LARGE` if a message that is too large stays
+/// queued.
 pub(crate) fn receive_options(large: bool) -> MessageOptions
     ensures { bits_of result ≡ receive_option large }
 {
@@ -16,7 +17,8 @@ pub(crate) fn receive_options(large: bool) -> MessageOptions
     }
 }
 
-/// Whether a message that is too large stays queued, if these are the options of a receive in a record.
+/// Returns true if a message that is too large stays queued, or `None` if these aren't the options of a receive in a
+/// record.
 pub(crate) fn receives_large(options: MessageOptions) -> Option<bool>
     ensures found { IfSome result (λ large. bits_of options ≡ receive_option large) }
     ensures none { IfNone result ((bits_of options ≢ receive_option false) × (bits_of options ≢ receive_option true)) }

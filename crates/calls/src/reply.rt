@@ -19,7 +19,7 @@ use ipc_model::{NamedType, PlainReply, RightKind, Sequence};
 use std::alloc::{AllocError, Global};
 use words::take_word;
 
-/// The names of a space, after their number.
+/// Decodes the names of a space, after their number.
 fn read_name_row(alloc: Global, results: &[u8]) -> Result<Option<Sequence<NamedType>>, AllocError>
     ensures found { IfOk result (λ found. IfSome found (λ names.
         results.now ≡ word (length names) ++ names_encoding names)) }
@@ -39,7 +39,7 @@ fn read_name_row(alloc: Global, results: &[u8]) -> Result<Option<Sequence<NamedT
     Ok(Some(Sequence::new(names)))
 }
 
-/// The members of a set, after their number.
+/// Decodes the members of a set, after their number.
 fn read_member_row(alloc: Global, results: &[u8]) -> Result<Option<Sequence<u32>>, AllocError>
     ensures found { IfOk result (λ found. IfSome found (λ members.
         results.now ≡ word (length members) ++ flat_map word members)) }
@@ -59,7 +59,7 @@ fn read_member_row(alloc: Global, results: &[u8]) -> Result<Option<Sequence<u32>
     Ok(Some(Sequence::new(members)))
 }
 
-/// The names of a space, as the reply to the call that asks for them.
+/// Decodes the results of the call that returns a space's names.
 #[tactic(auto, unfolding(ipc_model::specs::encodings::PlainCalls::reply_encoding))]
 fn read_name_reply(alloc: Global, results: &[u8]) -> Result<Option<PlainReply>, AllocError>
     ensures found { IfOk result (λ found. IfSome found
@@ -74,7 +74,7 @@ fn read_name_reply(alloc: Global, results: &[u8]) -> Result<Option<PlainReply>, 
     }
 }
 
-/// The members of a set, as the reply to the call that asks for them.
+/// Decodes the results of the call that returns a set's members.
 #[tactic(auto, unfolding(ipc_model::specs::encodings::PlainCalls::reply_encoding))]
 fn read_member_reply(alloc: Global, results: &[u8]) -> Result<Option<PlainReply>, AllocError>
     ensures found { IfOk result (λ found. IfSome found
@@ -89,7 +89,7 @@ fn read_member_reply(alloc: Global, results: &[u8]) -> Result<Option<PlainReply>
     }
 }
 
-/// The reply to a call with this number that was done, if its results are one number or two, or the state of a port.
+/// Decodes the results of a call that was done, if they are one word, two words or a port's state.
 #[tactic(auto, unfolding(ipc_model::specs::encodings::PlainCalls::reply_encoding))]
 fn read_short_results(number: u32, results: &[u8]) -> Option<PlainReply>
     ensures found { IfSome result (Answers number (done_encoding number results.now)) }
@@ -130,7 +130,7 @@ fn read_short_results(number: u32, results: &[u8]) -> Option<PlainReply>
     }
 }
 
-/// Whether a call with this number that was done has results.
+/// Returns true if calls with this number have results when they are done.
 fn has_results(number: u32) -> bool
     ensures { result ≡ has_results number }
 {
@@ -150,7 +150,7 @@ fn has_results(number: u32) -> bool
     )
 }
 
-/// The reply to a call with this number that was done, if it has no results.
+/// Returns the reply to a call that was done, if it has no results.
 #[tactic(auto, unfolding(ipc_model::specs::encodings::PlainCalls::reply_encoding))]
 fn read_done(number: u32) -> Option<PlainReply>
     ensures found { IfSome result (Answers number (done_encoding number [])) }
@@ -163,7 +163,7 @@ fn read_done(number: u32) -> Option<PlainReply>
     }
 }
 
-/// The reply to a call with this number, any but `mach_msg`, that was done and has these results.
+/// Decodes the results of a call that was done. Its number isn't that of `mach_msg`.
 fn read_results(
     alloc: Global,
     number: u32,
@@ -183,7 +183,7 @@ fn read_results(
     }
 }
 
-/// The reply to a call with this number, any but `mach_msg`, that was refused.
+/// Returns the reply to a call that was refused. Its number isn't that of `mach_msg`.
 #[tactic(auto, unfolding(ipc_model::specs::encodings::PlainCalls::reply_encoding))]
 fn read_refusal(number: u32, code: KernReturn, results: &[u8]) -> Option<PlainReply>
     requires number { number ≢ MACH_MSG }
@@ -198,7 +198,7 @@ fn read_refusal(number: u32, code: KernReturn, results: &[u8]) -> Option<PlainRe
     None
 }
 
-/// The size, the port's name and the message that stand after the code of a `mach_msg`.
+/// Splits the results of a `mach_msg`, after its code, into the size, the port's name and the message.
 fn take_message(results: &[u8]) -> Option<(u32, u32, &[u8])>
     ensures found { IfSome result (λ r. results.now ≡ word r.0 ++ (word r.1 ++ r.2.now)) }
     ensures fits { IfSome result (λ r. (r.0 < 2 ^ 32) × (r.1 < 2 ^ 32)) }
@@ -209,7 +209,7 @@ fn take_message(results: &[u8]) -> Option<(u32, u32, &[u8])>
     Some((size, member, message))
 }
 
-/// The bytes of a message.
+/// Copies the bytes of a message.
 fn keep(alloc: Global, message: &[u8]) -> Result<Sequence<u8>, AllocError>
     ensures value { IfOk result (λ kept. kept ≡ message.now) }
     ensures bytes { IfOk result (λ kept. AreBytes kept) }
@@ -217,7 +217,7 @@ fn keep(alloc: Global, message: &[u8]) -> Result<Sequence<u8>, AllocError>
     Ok(Sequence::new(Vec::from_slice(alloc, message)?))
 }
 
-/// The reply to a `mach_msg`, after its code.
+/// Decodes the reply to a `mach_msg`, after its code.
 #[tactic(auto, unfolding(ipc_model::specs::encodings::PlainCalls::reply_encoding))]
 fn read_message(
     alloc: Global,
@@ -242,7 +242,7 @@ fn read_message(
     }))
 }
 
-/// The reply to a call with this number, from its code and what stands after it.
+/// Decodes the reply to a call with this number, after its code.
 fn read_answer(
     alloc: Global,
     number: u32,
@@ -263,8 +263,8 @@ fn read_answer(
     Ok(read_refusal(number, code, results))
 }
 
-/// The reply to a call with this number that a frame's content encodes, if it encodes one. It can run out of memory
-/// only for a message, for names or for members.
+/// Decodes the content of the frame of a reply to a call with this number, or returns `None` if it isn't one. It can
+/// run out of memory only for a message, names or members.
 pub(crate) fn read_plain_reply(
     alloc: Global,
     number: u32,

@@ -23,10 +23,10 @@ use std::alloc::{AllocError, Global};
 use wire::Frame;
 use words::take_word;
 
-/// Writes a reply into a frame. It takes no memory.
+/// Writes a reply into a frame. It allocates nothing.
 pub fn reply_frame(reply: &Reply, frame: &mut Frame)
     requires room { MAX_FRAME_CONTENT ≤ frame.old.room }
-    // The names of a space and of a set's members fit, and so does a message of the greatest size.
+    // The names of a space fit, and so do the members of a set and a message of the maximum size.
     requires limit { length (reply_encoding reply.now) ≤ MAX_FRAME_CONTENT }
     ensures content { frame.new.content ≡ reply_encoding reply.now }
     ensures room { frame.old.room ≤ frame.new.room }
@@ -39,8 +39,8 @@ pub fn reply_frame(reply: &Reply, frame: &mut Frame)
     }
 }
 
-/// Adds the reply to a numbered call. If an allocation fails, some of it may have been added. It takes no memory if there
-/// is room.
+/// Appends the reply to a numbered call. If an allocation fails, part of it may have been appended. It allocates
+/// nothing if there is room.
 pub fn push_numbered_reply(out: &mut Vec<u8>, answer: &NumberedReply) -> Result<(), AllocError>
     requires { length (numbered_encoding answer.now) < 2 ^ 32 }
     ensures ok { OnOk result (out.new.items ≡ out.old.items ++ numbered_encoding answer.now) }
@@ -51,8 +51,8 @@ pub fn push_numbered_reply(out: &mut Vec<u8>, answer: &NumberedReply) -> Result<
     push_plain_reply(out, &answer.reply)
 }
 
-/// Adds the number, the code and the results of a reply. If an allocation fails, some of them may have been added. It
-/// takes no memory if there is room.
+/// Appends the number, the code and the results of a reply. If an allocation fails, part of them may have been
+/// appended. It allocates nothing if there is room.
 pub fn push_reply(out: &mut Vec<u8>, reply: &Reply) -> Result<(), AllocError>
     requires { length (reply_encoding reply.now) < 2 ^ 32 }
     ensures ok { OnOk result (out.new.items ≡ out.old.items ++ reply_encoding reply.now) }
@@ -65,7 +65,7 @@ pub fn push_reply(out: &mut Vec<u8>, reply: &Reply) -> Result<(), AllocError>
     }
 }
 
-/// The request that a reply to a numbered call has, and what encodes the reply to the call that is numbered.
+/// Splits the reply to a numbered call into its request and the encoding of the reply to the call that is numbered.
 fn take_numbered(content: &[u8]) -> Option<(u32, &[u8])>
     ensures found { IfSome result (λ r. (content.now ≡ done_encoding NUMBERED (word r.0 ++ r.1.now))
         × (r.0 < 2 ^ 32)) }
@@ -83,7 +83,7 @@ fn take_numbered(content: &[u8]) -> Option<(u32, &[u8])>
     }
 }
 
-/// The reply to this numbered call that these bytes encode, if they encode one in its record.
+/// Decodes the reply to this numbered call in its record, or returns `None` if the bytes aren't one.
 fn read_recorded_numbered(
     alloc: Global,
     numbered: &NumberedCall,
@@ -109,7 +109,7 @@ fn read_recorded_numbered(
     Ok(Some(NumberedReply { request, reply }))
 }
 
-/// The reply that these bytes encode, if they encode a reply in a record of this call. It can run out of memory only
+/// Decodes the reply in a record of this call, or returns `None` if the bytes aren't one. It can run out of memory only
 /// for a received message.
 pub fn read_recorded_reply(
     alloc: Global,
@@ -140,7 +140,8 @@ pub fn read_recorded_reply(
     }
 }
 
-/// The reply to a numbered call of this request that was made, if this encodes the reply to the call that is numbered.
+/// Decodes the reply to a numbered call that was made with this request, from the encoding of the reply to the call
+/// that is numbered.
 fn read_made(alloc: Global, request: u32, inner: &[u8]) -> Result<Option<Reply>, AllocError>
     ensures found { IfOk result (λ found. IfSome found
         (Answers NUMBERED (done_encoding NUMBERED (word request ++ inner.now)))) }
@@ -156,7 +157,7 @@ fn read_made(alloc: Global, request: u32, inner: &[u8]) -> Result<Option<Reply>,
     Ok(Some(Reply::Numbered(NumberedReply { request, reply })))
 }
 
-/// The reply to a call with this number that was not made by a number of its task's.
+/// Decodes the reply to a call with this number that wasn't made as a numbered call.
 fn read_own_reply(alloc: Global, number: u32, content: &[u8]) -> Result<Option<Reply>, AllocError>
     ensures found { IfOk result (λ found. IfSome found (Answers number content.now)) }
     ensures only { (answer : PlainReply) → Answers number content.now (reply.Plain answer)
@@ -169,8 +170,8 @@ fn read_own_reply(alloc: Global, number: u32, content: &[u8]) -> Result<Option<R
     }
 }
 
-/// The reply to a call with this number that a frame's content encodes, if it encodes one. It can run out of memory
-/// only for a message, for names or for members.
+/// Decodes the content of the frame of a reply to a call with this number, or returns `None` if it isn't one. It can
+/// run out of memory only for a message, names or members.
 pub fn read_reply(alloc: Global, number: u32, content: &[u8]) -> Result<Option<Reply>, AllocError>
     ensures found { IfOk result (λ found. IfSome found (Answers number content.now)) }
     ensures only { (answer : Reply) → Answers number content.now answer → IfOk result (λ found. found ≡ Some answer) }

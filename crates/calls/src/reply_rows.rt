@@ -10,7 +10,7 @@ use ipc_model::{NamedType, ReceiveStatus};
 use std::alloc::{AllocError, Global};
 use words::take_word;
 
-/// A name with its type in front, and what stands after them.
+/// Splits off a name and its type bits.
 fn take_named(bytes: &[u8]) -> Option<(NamedType, &[u8])>
     ensures found { IfSome result (λ r. bytes.now ≡ word r.0.name ++ (word r.0.bits ++ r.1.now)) }
     ensures fits { IfSome result (λ r. (r.0.name < 2 ^ 32) × (r.0.bits < 2 ^ 32)) }
@@ -21,7 +21,7 @@ fn take_named(bytes: &[u8]) -> Option<(NamedType, &[u8])>
     Some((NamedType { name, bits }, rest))
 }
 
-/// The names with their types that these bytes are.
+/// Decodes names with their type bits.
 pub(crate) fn read_names(alloc: Global, bytes: &[u8]) -> Result<Option<Vec<NamedType>>, AllocError>
     ensures found { IfOk result (λ found. IfSome found (λ names. bytes.now ≡ names_encoding names.items)) }
     ensures fits { IfOk result (λ found. IfSome found
@@ -41,7 +41,7 @@ pub(crate) fn read_names(alloc: Global, bytes: &[u8]) -> Result<Option<Vec<Named
     Ok(None)
 }
 
-/// The names that these bytes are.
+/// Decodes names.
 pub(crate) fn read_members(alloc: Global, bytes: &[u8]) -> Result<Option<Vec<u32>>, AllocError>
     ensures found { IfOk result (λ found. IfSome found (λ members. bytes.now ≡ flat_map word members.items)) }
     ensures fits { IfOk result (λ found. IfSome found (λ members. All (λ name. name < 2 ^ 32) members.items)) }
@@ -60,7 +60,7 @@ pub(crate) fn read_members(alloc: Global, bytes: &[u8]) -> Result<Option<Vec<u32
     Ok(None)
 }
 
-/// A flag in front.
+/// Splits off a flag.
 fn take_flag(bytes: &[u8]) -> Option<(bool, &[u8])>
     ensures found { IfSome result (λ r. bytes.now ≡ word (number_of_bool r.0) ++ r.1.now) }
     ensures none { IfNone result ((flag : Bool) (rest : List ℕ) → bytes.now ≡ word (number_of_bool flag) ++ rest → ⊥) }
@@ -73,7 +73,7 @@ fn take_flag(bytes: &[u8]) -> Option<(bool, &[u8])>
     }
 }
 
-/// Three numbers in front, and what stands after them.
+/// Splits off three words.
 fn take_three(bytes: &[u8]) -> Option<(u32, u32, u32, &[u8])>
     ensures found { IfSome result (λ r. bytes.now ≡ word r.0 ++ (word r.1 ++ (word r.2 ++ r.3.now))) }
     ensures fits { IfSome result (λ r. (r.0 < 2 ^ 32) × (r.1 < 2 ^ 32) × (r.2 < 2 ^ 32)) }
@@ -85,7 +85,7 @@ fn take_three(bytes: &[u8]) -> Option<(u32, u32, u32, &[u8])>
     Some((a, b, c, rest))
 }
 
-/// The three flags that these bytes are.
+/// Decodes three flags.
 fn three_flags(bytes: &[u8]) -> Option<(bool, bool, bool)>
     ensures found { IfSome result (λ r. bytes.now ≡ word (number_of_bool r.0)
         ++ (word (number_of_bool r.1) ++ word (number_of_bool r.2))) }
@@ -102,7 +102,7 @@ fn three_flags(bytes: &[u8]) -> Option<(bool, bool, bool)>
     }
 }
 
-/// The state of a port that these bytes are.
+/// Decodes a port's state.
 pub(crate) fn read_status(bytes: &[u8]) -> Option<ReceiveStatus>
     ensures found { IfSome result (λ status. bytes.now ≡ status_encoding status) }
     ensures fits { IfSome result (λ status. FitsReply (reply.ReceiveStatus status)) }

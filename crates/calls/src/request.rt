@@ -12,44 +12,44 @@ use ipc_model::{Call, PlainCall, Sequence};
 use std::alloc::{AllocError, Global};
 use words::take_word;
 
-/// What a `mach_msg` asks for: to send, to receive, or first the one and then the other. The session decides how long
-/// each may wait; the machine never waits.
+/// A request of a `mach_msg`: to send, to receive, or first to send and then to receive. The session enforces the
+/// timeouts; the kernel never waits.
 #[derive(Drop)]
 pub struct MessageRequest {
-    /// The send, if it asks for one.
+    /// The send, if the request contains one.
     pub send: Option<Call>,
-    /// The receive, if it asks for one.
+    /// The receive, if the request contains one.
     pub receive: Option<Call>,
-    /// How long the send may wait, if there is a bound.
+    /// Timeout of the send in milliseconds, if it has one.
     pub send_timeout: Option<u32>,
-    /// How long the receive may wait, if there is a bound.
+    /// Timeout of the receive in milliseconds, if it has one.
     pub receive_timeout: Option<u32>,
 }
 
-/// What a frame asks for.
+/// The request of a frame.
 #[derive(Drop)]
 pub enum Request {
-    /// A call of any number but that of `mach_msg`, which may be a numbered one.
+    /// A call of any number but that of `mach_msg`. It may be a numbered one.
     One(Call),
     /// A `mach_msg` that sends, receives or both.
     Message(MessageRequest),
-    /// A `mach_msg` that is answered with this code at once, with size 0 and no port's name: `InvalidArgument` if an
-    /// option isn't known, `Success` if it asks for nothing.
+    /// A `mach_msg` that is answered at once with this code, size 0 and no port's name: `InvalidArgument` if an option
+    /// is unknown, `Success` if it neither sends nor receives.
     Answered(KernReturn),
-    /// Number 23: the connection is confined to the space that it is attached to. It is no call of the machine.
+    /// Number 23: confines the connection to the space that it is attached to. The kernel doesn't know this call.
     Confine,
 }
 
-/// Why a frame is no request.
+/// The reason why a frame is no request.
 #[derive(Clone, Copy, Debug, PartialEq, Eq)]
 pub enum CallFault {
-    /// There is no call with this number, or the arguments don't have the call's length.
+    /// No call has this number, or the arguments don't have the call's length.
     NoCall = 1,
     /// Out of memory for the message of a send.
     NoMemory = 2,
 }
 
-/// Whether the options ask for a send or a receive.
+/// Returns true if the options ask for a send or a receive.
 fn asks_for_some(options: MessageOptions) -> bool
     ensures { result ≡ (requests.has_option (bits_of options) requests.send_msg || requests.has_option
         (bits_of options) requests.rcv_msg) }
@@ -57,7 +57,7 @@ fn asks_for_some(options: MessageOptions) -> bool
     options.contains(MessageOptions::SEND) || options.contains(MessageOptions::RECEIVE)
 }
 
-/// The send that the options ask for.
+/// Returns the send that the options ask for, or `None` if they ask for none.
 fn asked_send(
     alloc: Global,
     options: MessageOptions,
@@ -73,7 +73,7 @@ fn asked_send(
     Ok(Some(Call::Plain(PlainCall::Send { message })))
 }
 
-/// The receive that the options ask for.
+/// Returns the receive that the options ask for, or `None` if they ask for none.
 fn asked_receive(options: MessageOptions, limit: u32, name: u32) -> Option<Call>
     ensures { result ≡ requests.asked_receive (bits_of options) limit name }
 {
@@ -88,7 +88,7 @@ fn asked_receive(options: MessageOptions, limit: u32, name: u32) -> Option<Call>
     }))
 }
 
-/// The bound on a wait, if the options have this one.
+/// Returns the timeout if the options contain the option `bound`, else `None`.
 fn asked_timeout(options: MessageOptions, bound: MessageOptions, timeout: u32) -> Option<u32>
     ensures { result ≡ requests.asked_timeout (bits_of options) (bits_of bound) timeout }
 {
@@ -99,7 +99,7 @@ fn asked_timeout(options: MessageOptions, bound: MessageOptions, timeout: u32) -
     }
 }
 
-/// What these arguments of `mach_msg` ask for.
+/// Returns the request of a `mach_msg` with these arguments.
 #[tactic(auto, unfolding(crate::specs::Requests::asked, bitflags::specs::Sets::known_from))]
 fn request_of(
     alloc: Global,
@@ -133,7 +133,7 @@ fn request_of(
     }))
 }
 
-/// The four numbers that stand in front, and the bytes after them.
+/// Splits off four words.
 pub(crate) fn take_four(bytes: &[u8]) -> Option<(u32, u32, u32, u32, &[u8])>
     ensures found { IfSome result (λ r. bytes.now ≡ word r.0 ++ (word r.1 ++ (word r.2 ++ (word r.3 ++ r.4.now)))) }
     ensures fits { IfSome result (λ r. (r.0 < 2 ^ 32) × (r.1 < 2 ^ 32) × (r.2 < 2 ^ 32) × (r.3 < 2 ^ 32)) }
@@ -146,7 +146,7 @@ pub(crate) fn take_four(bytes: &[u8]) -> Option<(u32, u32, u32, u32, &[u8])>
     Some((a, b, c, d, rest))
 }
 
-/// What a `mach_msg` with these arguments asks for.
+/// Decodes the arguments of a `mach_msg`.
 fn read_mach_msg(alloc: Global, arguments: &[u8]) -> Result<Request, CallFault>
     ensures found { IfOk result (λ request. requests.AsksMachMsg arguments.now request) }
     ensures only { (asks : Request) → requests.AsksMachMsg arguments.now asks
@@ -162,7 +162,7 @@ fn read_mach_msg(alloc: Global, arguments: &[u8]) -> Result<Request, CallFault>
     Ok(request)
 }
 
-/// What number 23 asks for with these arguments. It has none.
+/// Decodes the arguments of number 23, which has none.
 fn read_confine(arguments: &[u8]) -> Result<Request, CallFault>
     ensures found { IfOk result (λ request. (request ≡ Request.Confine) × (arguments.now ≡ [])) }
     ensures none { OnErr result (arguments.now ≢ []) }
@@ -175,8 +175,8 @@ fn read_confine(arguments: &[u8]) -> Result<Request, CallFault>
     }
 }
 
-/// What a frame of this content asks for. `NoCall`: no call has this number and arguments of this length. `NoMemory`,
-/// only for a send, which may be numbered: out of memory for its message.
+/// Decodes the content of a frame. `NoCall`: no call has this number and arguments of this length. `NoMemory`: out of
+/// memory for the message of a send, which may be numbered.
 #[tactic(auto, unfolding(ipc_model::specs::encodings::PlainCalls::call_encoding))]
 pub fn read_request(alloc: Global, content: &[u8]) -> Result<Request, CallFault>
     ensures found { IfOk result (λ request. requests.Asks content.now request) }

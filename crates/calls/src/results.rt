@@ -8,7 +8,7 @@ use codes::{KernReturn, MACH_PORT_DEAD, MACH_PORT_NULL};
 use ipc_model::{PlainCall, PlainReply, is_message_size};
 use std::alloc::{AllocError, Global};
 
-/// Whether the call is a receive that destroys a message that is too large.
+/// Returns true if the call is a receive that destroys a message that is too large.
 fn destroys(call: &PlainCall) -> bool
     ensures { result ≡ has_destroyed call.now KernReturn.RcvTooLarge }
 {
@@ -18,7 +18,7 @@ fn destroys(call: &PlainCall) -> bool
     }
 }
 
-/// Whether the call has no results when it is done.
+/// Returns true if the call has no results when it is done.
 fn has_no_results(call: &PlainCall) -> bool
     ensures { result ≡ has_no_results call.now }
 {
@@ -33,8 +33,8 @@ fn has_no_results(call: &PlainCall) -> bool
     )
 }
 
-/// Whether a receive with this limit reports this of the message that it took out: its size, the name of its port and,
-/// unless it was destroyed, its bytes.
+/// Returns true if a receive with this limit may report this about the message that it took: its size, its port's name
+/// and, unless the message was destroyed, its bytes.
 fn is_of_receive(limit: u32, code: KernReturn, size: u32, member: u32, message: &[u8]) -> bool
     ensures yes { result ≡ true → IsOfReceive limit code size member message.now }
     ensures no { result ≡ false → IsOfReceive limit code size member message.now → ⊥ }
@@ -49,7 +49,7 @@ fn is_of_receive(limit: u32, code: KernReturn, size: u32, member: u32, message: 
     }
 }
 
-/// Whether a `mach_msg` returns these results: a send returns none.
+/// Returns true if a `mach_msg` may return these results. A send returns none.
 fn brings(call: &PlainCall, code: KernReturn, size: u32, member: u32, message: &[u8]) -> bool
     ensures yes { result ≡ true → Brings call.now code size member message.now }
     ensures no { result ≡ false → Brings call.now code size member message.now → ⊥ }
@@ -61,7 +61,7 @@ fn brings(call: &PlainCall, code: KernReturn, size: u32, member: u32, message: &
     }
 }
 
-/// Whether a record has a `mach_msg` with this code.
+/// Returns true if a `mach_msg` that returns this code is recorded.
 fn has_recorded_code(call: &PlainCall, code: KernReturn) -> bool
     ensures { result ≡ (is_success code || has_destroyed call.now code) }
 {
@@ -72,7 +72,7 @@ fn has_recorded_code(call: &PlainCall, code: KernReturn) -> bool
     }
 }
 
-/// Whether a record has a `mach_msg` with these results.
+/// Returns true if a `mach_msg` with these results is recorded.
 fn is_recorded_message(
     call: &PlainCall,
     code: KernReturn,
@@ -92,7 +92,7 @@ fn is_recorded_message(
     }
 }
 
-/// Whether a record of this call, which has one, can have this reply to it.
+/// Returns true if a record of this call, which is recorded, can contain this reply.
 fn is_recorded_reply(call: &PlainCall, answer: &PlainReply) -> bool
     ensures yes { result ≡ true → HasItsResults call.now answer.now × IsTrue (succeeded answer.now
         || destroyed_message call.now answer.now) }
@@ -120,7 +120,7 @@ fn is_recorded_reply(call: &PlainCall, answer: &PlainReply) -> bool
     }
 }
 
-/// The reply that these bytes encode, if they encode a reply in a record of this call. It can run out of memory only
+/// Decodes the reply in a record of this call, or returns `None` if the bytes aren't one. It can run out of memory only
 /// for a received message.
 pub(crate) fn read_recorded_plain_reply(
     alloc: Global,

@@ -5,8 +5,7 @@ ghost use Rattle.words.specs.Words.{word};
 use std::alloc::AllocError;
 use words::{push_word, take_word};
 
-/// Adds numbers of four bytes. If an allocation fails, some of them may have been added. It takes no memory if there is
-/// room.
+/// Appends words. If an allocation fails, some of them may have been appended. It allocates nothing if there is room.
 pub(crate) fn push_words(out: &mut Vec<u8>, numbers: &[u32]) -> Result<(), AllocError>
     ensures ok { OnOk result (out.new.items ≡ out.old.items ++ flat_map word numbers.now) }
     ensures full { OnErr result (vec_capacity out.old < vec_len out.old + length (flat_map word numbers.now)) }
@@ -18,7 +17,7 @@ pub(crate) fn push_words(out: &mut Vec<u8>, numbers: &[u32]) -> Result<(), Alloc
     Ok(())
 }
 
-/// The number that these bytes are, if they are one of four bytes.
+/// Decodes exactly one word.
 pub(crate) fn one_word(bytes: &[u8]) -> Option<u32>
     ensures found { IfSome result (λ a. bytes.now ≡ word a) }
     ensures fits { IfSome result (λ a. a < 2 ^ 32) }
@@ -28,7 +27,7 @@ pub(crate) fn one_word(bytes: &[u8]) -> Option<u32>
     if rest.is_empty() { Some(a) } else { None }
 }
 
-/// The two numbers that these bytes are.
+/// Decodes exactly two words.
 pub(crate) fn two_words(bytes: &[u8]) -> Option<(u32, u32)>
     ensures found { IfSome result (λ r. bytes.now ≡ word r.0 ++ word r.1) }
     ensures fits { IfSome result (λ r. (r.0 < 2 ^ 32) × (r.1 < 2 ^ 32)) }
@@ -39,7 +38,7 @@ pub(crate) fn two_words(bytes: &[u8]) -> Option<(u32, u32)>
     Some((a, b))
 }
 
-/// The three numbers that these bytes are.
+/// Decodes exactly three words.
 pub(crate) fn three_words(bytes: &[u8]) -> Option<(u32, u32, u32)>
     ensures found { IfSome result (λ r. bytes.now ≡ word r.0 ++ (word r.1 ++ word r.2)) }
     ensures fits { IfSome result (λ r. (r.0 < 2 ^ 32) × (r.1 < 2 ^ 32) × (r.2 < 2 ^ 32)) }
@@ -50,7 +49,7 @@ pub(crate) fn three_words(bytes: &[u8]) -> Option<(u32, u32, u32)>
     Some((a, b, c))
 }
 
-/// The five numbers that these bytes are.
+/// Decodes exactly five words.
 pub(crate) fn five_words(bytes: &[u8]) -> Option<(u32, u32, u32, u32, u32)>
     ensures found { IfSome result (λ r. bytes.now ≡ word r.0 ++ (word r.1 ++ (word r.2 ++ (word r.3 ++ word r.4)))) }
     ensures fits { IfSome result (λ r. (r.0 < 2 ^ 32) × (r.1 < 2 ^ 32) × (r.2 < 2 ^ 32) × (r.3 < 2 ^ 32)

@@ -1,4 +1,4 @@
--- What holds of a slot, an epoch and an encoding holds of equal ones.
+-- A fact about a slot, an epoch and an encoding holds of equal ones.
 use Rattle.std.proofs.Common.{◌≡◌, ℕ, List, subst}
 use Rattle.disk.specs.declared.slot.Slot.{Slot}
 

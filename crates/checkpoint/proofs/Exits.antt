@@ -1,4 +1,4 @@
--- At an exit with a fault, clauses about an `Ok` ask for nothing.
+-- At an exit with a fault, clauses about `Ok` hold trivially.
 use Rattle.std.proofs.Common.{Result, Ok, Err, OnOk}
 use Rattle.std.specs.Prelude.{IsErrAnd}
 

@@ -1,4 +1,4 @@
--- An image's encoding after the place of its header, and then the whole image.
+-- An image's encoding after the place of its header, then the whole image.
 use Rattle.std.proofs.Common.{◌≡◌, ℕ, ◌<◌, ◌≤◌, List, [], ◌∷◌, ◌++◌, length, take, drop, sym, ap, ◌∙◌, arith, append_assoc, length-append}
 use Rattle.std.proofs.lemmas.List.{append-nil, drop_at}
 use Rattle.disk.specs.declared.slot.Slot.{Slot}
@@ -10,7 +10,7 @@ use Rattle.slot_steps.proofs.Gates.{after_first}
 use Rattle.slot_steps.proofs.Lengths.{closed_cut, cut_length, own_of}
 use Rattle.disk.proofs.Moments.{with_twice}
 
--- a slot that was truncated to the place of a header, whose gate isn't open
+-- a slot that was truncated to the length of a header, with a closed gate
 pub cut_to_header : (slot : Slot) (old new : Slots) → 24 ≤ length (slot_of old slot) → IsClosed (slot_of old slot)
     → new ≡ with_slot old slot (take 24 (slot_of old slot)) → HoldsAfter (slot_of new slot) []
 cut_to_header slot old new long shut is =
@@ -22,7 +22,7 @@ cut_to_header slot old new long shut is =
       whole = own_of slot old new front is ∙ sym (append-nil front);
     }
 
--- what stands after the first byte once the header is written
+-- the bytes after the first one once the header is written
 after_header : (bytes encoding header : List ℕ) → (holds : HoldsAfter bytes encoding)
     → drop 1 (take 1 bytes ++ (header ++ drop 24 bytes)) ≡ header ++ encoding
 after_header bytes encoding header holds =
@@ -55,7 +55,7 @@ gate_written slot old mid new epoch encoding bytes before beyond is =
     is ∙ (λ i. with_slot (before i) slot (open_gate ∷ beyond i))
     ∙ with_twice slot old bytes (open_gate ∷ image_content epoch encoding)
 
--- more of the encoding was written after what stood there
+-- more of the encoding was appended
 pub held_more : (slot : Slot) (old new : Slots) (encoding more whole : List ℕ) → HoldsAfter (slot_of old slot) encoding
     → new ≡ with_slot old slot (slot_of old slot ++ more) → encoding ++ more ≡ whole
     → HoldsAfter (slot_of new slot) whole

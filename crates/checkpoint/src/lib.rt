@@ -1,4 +1,4 @@
-//! Images in their slots: an epoch's image is made in memory, and written piece by piece after a closed gate.
+//! Images in their slots. An epoch's image is encoded in memory, and written piece by piece after a closed gate.
 #![tactic(auto)]
 
 mod steps;

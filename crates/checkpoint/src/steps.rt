@@ -1,4 +1,4 @@
-// The device's part of an image's steps, on one slot.
+// The device calls of an image's steps, on one slot.
 ghost use Rattle.std.specs.Prelude.{◌≡◌, ◌+◌, ◌<◌, ◌≤◌, ◌++◌, [], length, take, drop, OnOk};
 ghost use Rattle.disk.specs.Slots.{slot_of, with_slot};
 ghost use Rattle.disk.specs.Moments.{IsSynced, Passes, Follows, CountsFailure};
@@ -14,11 +14,11 @@ use slot_steps::{
     IMAGE_HEADER, OPEN_GATE, close_slot, cut_after, sync_after, write_after, write_gate,
 };
 
-/// How many bytes of an encoded state are written at once.
+/// Maximum number of bytes of an encoded state that one write stores.
 pub const PIECE: usize = 4096;
 
-/// What stands after the gate of an image before its encoded state: the version, six zero bytes, its epoch, and the
-/// length of that encoding.
+/// Returns the bytes between an image's gate and its encoded state: the version, six zero bytes, its epoch, and the
+/// encoding's length.
 fn image_start(epoch: u64, length: u64) -> [u8; 23]
     ensures { result ≡ epoch_encoding epoch ++ long_word length }
 {
@@ -30,7 +30,7 @@ fn image_start(epoch: u64, length: u64) -> [u8; 23]
     ]
 }
 
-/// Writes zeros where an image has its header after the gate.
+/// Writes zeros in place of an image's header, after the gate.
 fn write_zeros<D: Disk>(disk: &mut D, slot: Slot) -> Result<(), DiskFault>
     requires { D.honest → 0 < length (slot_of (D.view disk.old).seen slot) }
     ensures long { D.honest → OnOk result (24 ≤ length (slot_of (D.view disk.new).seen slot)) }
@@ -47,7 +47,7 @@ fn write_zeros<D: Disk>(disk: &mut D, slot: Slot) -> Result<(), DiskFault>
     write_after(disk, slot, 1, &[0; 23])
 }
 
-/// Clears an image slot: it then holds a closed gate and the place of a header, and nothing else.
+/// Clears an image slot, which then holds a closed gate and zeros in place of a header.
 pub(crate) fn clear<D: Disk>(disk: &mut D, slot: Slot) -> Result<(), DiskFault>
     ensures cleared { D.honest → OnOk result (HoldsAfter (slot_of (D.view disk.new).seen slot) []) }
     ensures others { D.honest → OnOk result
@@ -63,14 +63,14 @@ pub(crate) fn clear<D: Disk>(disk: &mut D, slot: Slot) -> Result<(), DiskFault>
     cut_after(disk, slot, 24)
 }
 
-/// How many pieces an encoding has.
+/// Returns the number of pieces of an encoding.
 pub(crate) fn pieces_in(encoding: &[u8]) -> u64
     ensures { result ≡ pieces_of encoding.now }
 {
     encoding.len().div_ceil(PIECE) as u64
 }
 
-/// A piece of an encoding, by how many come before it.
+/// Returns the piece of an encoding with this index.
 pub(crate) fn piece_at(encoding: &[u8], before: u64) -> &[u8]
     ensures { first_pieces before encoding.now ++ result.now ≡ first_pieces (before + 1) encoding.now }
 {
@@ -79,7 +79,7 @@ pub(crate) fn piece_at(encoding: &[u8], before: u64) -> &[u8]
     &encoding[from..to]
 }
 
-/// Writes a piece of an encoded state after what stands in the slot.
+/// Appends a piece of an encoded state to the slot.
 pub(crate) fn push_piece<D: Disk>(disk: &mut D, slot: Slot, piece: &[u8]) -> Result<(), DiskFault>
     requires { D.honest → 0 < length (slot_of (D.view disk.old).seen slot) }
     ensures written { D.honest → OnOk result ((D.view disk.new).seen
@@ -111,7 +111,7 @@ fn write_encoding<D: Disk>(disk: &mut D, slot: Slot, encoding: &[u8]) -> Result<
     Ok(())
 }
 
-/// Writes an image's header after the gate, on the disk.
+/// Writes an image's header after the gate, and syncs it.
 fn write_header<D: Disk>(disk: &mut D, slot: Slot, epoch: u64, size: u64) -> Result<(), DiskFault>
     requires { D.honest → 24 ≤ length (slot_of (D.view disk.old).seen slot) }
     ensures written { D.honest → OnOk result ((D.view disk.new).seen ≡ with_slot (D.view disk.old).seen slot
@@ -127,7 +127,7 @@ fn write_header<D: Disk>(disk: &mut D, slot: Slot, epoch: u64, size: u64) -> Res
     sync_after(disk, slot)
 }
 
-/// Writes the header of an image whose whole encoding stands in the slot, and opens the gate.
+/// Writes the header of an image whose whole encoding is in the slot, and opens the gate.
 pub(crate) fn finish<D: Disk>(
     disk: &mut D,
     slot: Slot,
@@ -147,7 +147,7 @@ pub(crate) fn finish<D: Disk>(
     write_gate(disk, slot, OPEN_GATE)
 }
 
-/// Writes a whole image, from the closing of its slot to the opening of its gate.
+/// Writes a whole image: closes its slot, writes the encoding and the header, and opens the gate.
 pub(crate) fn write_all<D: Disk>(
     disk: &mut D,
     slot: Slot,

@@ -14,7 +14,7 @@ use snapshot::Snapshot;
 use std::alloc::{AllocError, Global};
 use std::marker::Model;
 
-/// An epoch's image: its encoding, and how many pieces of it were written into the slot.
+/// An epoch's image: its encoding, and the number of pieces that were written to the slot.
 #[derive(Drop)]
 pub struct Image {
     epoch: u64,
@@ -37,7 +37,7 @@ impl Model for Image {
 }
 
 impl Image {
-    /// Makes the image that an epoch begins with, in memory.
+    /// Encodes the image with which an epoch begins, in memory.
     pub fn of(alloc: Global, epoch: u64, snapshot: &Snapshot) -> Result<Image, AllocError>
         ensures { IfOk result (λ image. image ≡ unwritten epoch (snapshot_encoding snapshot.now)) }
     {
@@ -50,7 +50,7 @@ impl Image {
         })
     }
 
-    /// How many bytes its encoding has.
+    /// Returns the length of the encoding in bytes.
     pub fn size(&self) -> u64
         ensures size { result ≡ length self.now.encoding }
         ensures fits { length self.now.encoding < 2 ^ 64 }
@@ -58,14 +58,14 @@ impl Image {
         self.encoding.len() as u64
     }
 
-    /// How many pieces its encoding has.
+    /// Returns the number of pieces of the encoding.
     pub fn pieces(&self) -> u64
         ensures { result ≡ pieces_of self.now.encoding }
     {
         steps::pieces_in(&self.encoding)
     }
 
-    /// How many pieces were written.
+    /// Returns the number of pieces that were written.
     pub fn written(&self) -> u64
         ensures written { result ≡ self.now.written }
         ensures within { result ≤ pieces_of self.now.encoding }
@@ -90,7 +90,7 @@ impl Image {
         steps::clear(disk, image_slot(self.epoch))
     }
 
-    /// Writes the next piece after those that stand in the slot.
+    /// Appends the next piece to the slot.
     pub fn write_piece<D: Disk>(&mut self, disk: &mut D) -> Result<(), DiskFault>
         requires more { self.old.written < pieces_of self.old.encoding }
         requires holds { D.honest → HoldsAfter (slot_of (D.view disk.old).seen (slot_of_epoch self.old.epoch))
@@ -117,7 +117,7 @@ impl Image {
         Ok(())
     }
 
-    /// Opens the gate of the image, whose whole encoding stands in the slot, once that and the header are on the disk.
+    /// Opens the image's gate, once its whole encoding and its header are durable.
     pub fn finish<D: Disk>(&self, disk: &mut D) -> Result<(), DiskFault>
         requires all { self.now.written ≡ pieces_of self.now.encoding }
         requires holds { D.honest → HoldsAfter (slot_of (D.view disk.old).seen (slot_of_epoch self.now.epoch))
@@ -136,7 +136,7 @@ impl Image {
         steps::finish(disk, image_slot(self.epoch), self.epoch, &self.encoding)
     }
 
-    /// Writes the whole image at once, from the closing of its slot to the opening of its gate.
+    /// Writes the whole image: closes its slot, writes the encoding and the header, and opens the gate.
     pub fn write<D: Disk>(&self, disk: &mut D) -> Result<(), DiskFault>
         ensures made { D.honest → OnOk result ((D.view disk.new).seen
             ≡ with_slot (D.view disk.old).seen (slot_of_epoch self.now.epoch)

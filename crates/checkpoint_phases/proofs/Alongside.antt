@@ -1,4 +1,4 @@
--- Steps on a segment's slot, and on an image's slot in the same store.
+-- Steps on a segment's slot, and on an image's slot of the same store.
 use Rattle.std.proofs.Common.{◌≡◌, ℕ, ◌+◌, List, [], refl, sym, ap, subst, ◌∙◌}
 use Rattle.std.specs.Prelude.{Bool, true, false, ◌%◌, ◌==◌, if◌then◌else◌}
 use Rattle.disk.specs.declared.slot.Slot.{Slot}
@@ -13,7 +13,7 @@ use Rattle.slot_steps.proofs.Lengths.{own_of}
 use Rattle.slot_steps.specs.Steps.{IsShut, image_slot, segment_slot}
 use Rattle.store_layout.specs.Standing.{IsPassedImage}
 
--- what holds of each image's slot with each segment's slot
+-- a fact about each image's slot with each segment's slot
 each_pair : (P : Slot → Slot → Type 0) → P Image0 Segment0 → P Image0 Segment1 → P Image1 Segment0 → P Image1 Segment1
     → (a b : ℕ) → P (image_slot a) (segment_slot b)
 each_pair P first second third last a b =
@@ -32,7 +32,7 @@ pub image_stays : (s : Slots) (x : List ℕ) (a b : ℕ)
     → slot_of (with_slot s (segment_slot b) x) (image_slot a) ≡ slot_of s (image_slot a)
 image_stays s x = each_pair (λ i g. slot_of (with_slot s g x) i ≡ slot_of s i) refl refl refl refl
 
--- both are changed, in either order
+-- both slots are changed, in either order
 pub both_changed : (s : Slots) (x y : List ℕ) (a b : ℕ)
     → with_slot (with_slot s (image_slot a) x) (segment_slot b) y
     ≡ with_slot (with_slot s (segment_slot b) y) (image_slot a) x

@@ -1,4 +1,5 @@
--- A store that is kept stands for its state, a batch that is appended keeps it, and a checkpoint begins from it.
+-- A store with the invariant represents its state. Appending a batch keeps the invariant, and so does the begin of a
+-- checkpoint.
 use Rattle.std.proofs.Common.{◌≡◌, ◌⊎◌, inl, inr, ℕ, suc, ◌+◌, ◌^◌, ◌<◌, ◌≤◌, List, [], ◌∷◌, ◌++◌, length, refl, sym, ap, subst, ◌∙◌, arith, length-append}
 use Rattle.std.specs.Prelude.{Option, None, Some, map}
 use Rattle.codes.specs.declared.limits.TheConstants.{MAX_RECORDS}
@@ -37,7 +38,7 @@ use Rattle.store_half.specs.Changes.{IsAppended, PassesAppend}
 use Rattle.store_half.specs.Values.{CheckpointValue, CutValue, begun}
 use Rattle.words.specs.Words.{frame_encoding, long_word, word}
 
--- what is kept of records has their encoding
+-- the canonical form of a record has the record's encoding
 kept_encoding : (n : ℕ) (entry : Record) → record_encoding n (canonical_record entry) ≡ record_encoding n entry
 unfolding record_encoding
 kept_encoding n entry =
@@ -63,8 +64,8 @@ holds_kept n records batch holds =
       encoding = holds.encoding ∙ sym (kept_encodings n records);
     })
 
--- What a kept store's segment in use stands for: its records lead from a state to the store's. If it has other records,
--- whatever a crash leaves stands for the state that those lead to.
+-- The records of the segment in use lead from some state to the store's. If the segment has other records instead, all
+-- contents after a crash represent the state that those lead to.
 record HasSegment (disk : View) (segment : Segment) (state : State) : Type 0 where
   base : State
   records : List Record
@@ -143,7 +144,7 @@ pub kept_synced : (disk : View) (segment : Segment) (checkpoint : Option Checkpo
     → Keeps disk segment checkpoint mid state → IsSynced disk (segment_slot segment.epoch)
 kept_synced disk segment checkpoint mid state keeps = (has_segment disk segment checkpoint mid state keeps).synced
 
--- a crash while a store is kept leaves one that stands for its state
+-- all contents that a crash leaves of a store with the invariant represent its state
 pub kept_stands : (disk : View) (segment : Segment) (checkpoint : Option CheckpointValue) (mid state : State)
     → Keeps disk segment checkpoint mid state → (c : Slots) → MayLeave disk c → StandForState state c
 kept_stands disk segment checkpoint mid state keeps c left =
@@ -156,7 +157,7 @@ kept_stands disk segment checkpoint mid state keeps c left =
     (in_use_encodes segment.epoch (slot_of c slot) has.records used) has.run
     (in_use_has_gate segment.epoch (slot_of c slot) has.records used))
 
--- records that are stored after others
+-- Records that are stored after others.
 module _ (segment : Segment) (base before after : State) (stored records : List Record) (batch : BatchValue)
     (run : Run base stored before) (counted : segment.records ≡ length stored)
     (is : IsReadyBatch before after segment.records records batch) where
@@ -197,7 +198,7 @@ module _ (segment : Segment) (base before after : State) (stored records : List 
       append_keeps_gate e bytes now stored (map canonical_record records) used more_some is.are more_room
       (subst (λ (t : List ℕ). IsMidAppend bytes t now) encoding_is mid)
 
--- a crash at a moment of the append leaves the state before it or after it
+-- a crash at any moment of the append leaves the state before it or after it
 pub append_mid : (old : View) (segment : Segment) (checkpoint : Option CheckpointValue) (mid before after : State)
     (records : List Record) (batch : BatchValue) → Keeps old segment checkpoint mid before
     → IsReadyBatch before after segment.records records batch
@@ -223,7 +224,7 @@ append_mid old segment checkpoint mid before after records batch keeps is c made
           (more_run segment has.base before after has.records records batch has.run has.counted is))
     ]
 
--- after the append the store is kept, with the records
+-- After the append the invariant holds, with the new records.
 
 kept_append : (old new : View) (segment : Segment) (before after : State) (records : List Record) (batch : BatchValue)
     → IsKept old segment before → IsReadyBatch before after segment.records records batch

@@ -1,5 +1,5 @@
--- A step that clears the slot of the next epoch's segment keeps a store, and a crash within it leaves slots that stand
--- for the same state.
+-- A step that clears the slot of the next epoch's segment keeps the invariant, and a crash during the step leaves slots
+-- that represent the same state.
 use Rattle.std.proofs.Common.{◌≡◌, ℕ, ◌+◌, List, None, sym, ap, subst, ◌∙◌}
 use Rattle.std.specs.Prelude.{Option}
 use Rattle.disk.specs.declared.slot.Slot.{Slot}
@@ -22,13 +22,13 @@ use Rattle.store_layout.specs.Standing.{InOne, IsPassedSegment}
 use Rattle.store_half.specs.Changes.{Clears, FailsToClear, FindsClear}
 use Rattle.store_half.specs.Values.{CheckpointValue, StoreValue}
 
--- Over the views of the disks.
+-- For the views of the disks.
 
 module _ (old new : View) (segment : Segment) (state : State) (kept : IsKept old segment state) where
   abbrev next_slot : Slot
   next_slot = segment_slot (segment.epoch + 1)
 
-  -- slots that were at rest, with other bytes in the next segment's slot, which is passed over
+  -- synced slots with other bytes in the next segment's slot, which is ignored
   changed_stands : (c : Slots) → c ≡ old.seen → (x : List ℕ) → IsPassedSegment segment.epoch x
       → StandForState state (with_slot c next_slot x)
   changed_stands c at_rest x passed =
@@ -97,9 +97,9 @@ module _ (old new : View) (segment : Segment) (state : State) (kept : IsKept old
         counted = kept.counted;
       }
 
--- Of the half that stores.
+-- For the store half.
 
--- a store that is kept outside a checkpoint
+-- a store with the invariant outside a checkpoint
 outside : (disk : View) (segment : Segment) (found : Option CheckpointValue) (mid state : State)
     → Keeps disk segment found mid state → found ≡ None → IsKept disk segment state
 outside disk segment found mid state keeps none =
@@ -117,7 +117,7 @@ module _ {D : Type 0} (honest : Type 0) (view : D → View) (is_honest : honest)
       subst (λ (o : Option CheckpointValue). Keeps (view new.disk) new.segment o mid state) (sym none)
       (subst (λ (g : Segment). IsKept (view new.disk) g state) (sym same) kept)
 
-  -- what a crash left of the slot before the step is what a read gave
+  -- the contents of the slot after a crash before the step are those that reads returned
   clear_time : Keeps (view old.disk) old.segment old.checkpoint mid state → Clears honest view old new
       → Passes (view old.disk) (view new.disk)
       (Follows (view old.disk) (segment_slot (old.segment.epoch + 1)) (IsClosing 16))

@@ -1,4 +1,5 @@
--- The steps of the next image keep a store, and what a crash leaves within one stands for its state.
+-- The steps of the next image keep the invariant, and the contents after a crash during one represent the store's
+-- state.
 use Rattle.std.proofs.Common.{◌≡◌, inl, inr, ℕ, ◌+◌, ◌^◌, ◌<◌, List, length, sym, ap, subst, arith}
 use Rattle.std.specs.Prelude.{Option, Some}
 use Rattle.checkpoint.specs.Images.{IsFinishing, open_image}
@@ -17,11 +18,11 @@ use Rattle.store_layout.specs.Standing.{IsPassedImage}
 use Rattle.store_half.specs.Changes.{ClosesImage, FailsToCloseImage, FailsToFinish, FailsToWritePiece, Finishes, WritesPiece}
 use Rattle.store_half.specs.Values.{CheckpointValue, StoreValue}
 
--- Over the views of the disks.
+-- For the views of the disks.
 
 module _ (old new : View) (segment : Segment) (checkpoint : CheckpointValue) (mid state : State)
     (keeps : IsCheckpointing old segment checkpoint mid state) where
-  -- the slot is still passed over
+  -- The slot is still ignored.
 
   image_keeps : (step : List ℕ → List ℕ → Type 0) (made : ℕ) → 0 < made
       → Passes old new (Follows old (image_slot checkpoint.epoch) step)
@@ -106,7 +107,7 @@ module _ (old new : View) (segment : Segment) (checkpoint : CheckpointValue) (mi
       (subst (λ (n : ℕ). new.seen ≡ with_slot old.seen (image_slot n) (open_image n checkpoint.encoding)) phase.epoch
       made) (subst (λ (n : ℕ). IsSynced new (image_slot n)) phase.epoch synced)
 
--- Of the half that stores.
+-- For the store half.
 
 module _ {D : Type 0} (honest : Type 0) (view : D → View) (is_honest : honest) (old new : StoreValue D)
     (mid state : State) where

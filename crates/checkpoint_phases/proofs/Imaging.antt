@@ -1,4 +1,4 @@
--- How the steps of the next image change a store in each phase of a checkpoint.
+-- The effect of the next image's steps on a store in each phase of a checkpoint.
 use Rattle.std.proofs.Common.{◌≡◌, inl, inr, ℕ, ◌+◌, ◌^◌, ◌<◌, List, [], length, sym, ap, subst, ◌∙◌, arith}
 use Rattle.std.proofs.lemmas.List.{append-nil}
 use Rattle.codes.specs.StoreVersion.{current}

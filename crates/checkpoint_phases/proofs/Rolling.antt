@@ -1,4 +1,4 @@
--- How the steps of rotating change a store in the first phase of a checkpoint.
+-- The effect of the steps of rotating on a store in the first phase of a checkpoint.
 use Rattle.std.proofs.Common.{◌≡◌, inl, inr, ℕ, ◌+◌, ◌<◌, List, [], ◌∷◌, ◌++◌, length, take, drop, refl, sym, ap, subst, ◌∙◌, arith}
 use Rattle.disk.specs.Moments.{View, MayLeave, Passes, Follows, IsSynced}
 use Rattle.disk.specs.Slots.{Slots, slot_of, with_slot}
@@ -22,7 +22,7 @@ use Rattle.store_layout.specs.Gates.{HasLastGate, StandForState}
 use Rattle.store_layout.specs.Standing.{InOne, InTwo, IsPassedSegment}
 use Rattle.store_half.specs.Values.{CheckpointValue}
 
--- the first two steps, by what they leave in the next segment's slot
+-- The first two steps, by their effect on the next segment's slot.
 
 pub closed_rolling : (slot : List ℕ) (epoch : ℕ) → 0 < length slot → IsClosed slot → IsRolling slot epoch 1
 closed_rolling slot epoch begun closed =
@@ -54,7 +54,7 @@ header_rolling slot epoch rolling =
 
 module _ (old new : View) (segment : Segment) (checkpoint : CheckpointValue) (state : State)
     (phase : InFirst old segment checkpoint state) where
-  -- the next segment's slot is still passed over
+  -- the next segment's slot is still ignored
   pub rolled_keeps : (step : List ℕ → List ℕ → Type 0) (bytes : List ℕ) (rolled : ℕ)
       → Passes old new (Follows old (segment_slot (segment.epoch + 1)) step)
       → new.seen ≡ with_slot old.seen (segment_slot (segment.epoch + 1)) bytes
@@ -84,7 +84,7 @@ module _ (old new : View) (segment : Segment) (checkpoint : CheckpointValue) (st
         counted = phase.counted;
       }
 
-  -- whatever stands in the next segment's slot
+  -- the gate of the segment in use, whatever the next segment's slot contains
   own_gate : (c : Slots) → MayLeave old c → (x : List ℕ)
       → HasLastGate (slot_of (with_slot c (segment_slot (segment.epoch + 1)) x) (segment_slot segment.epoch))
   own_gate c left x =
@@ -106,7 +106,7 @@ module _ (old new : View) (segment : Segment) (checkpoint : CheckpointValue) (st
       (one_next_segment_changed made.0 n phase.base phase.records x one
       (passed (slot_of made.0 slot) x made.2 one.other_segment)) phase.run (own_gate made.0 made.1 x)))
 
-  -- after the gate stands all of an empty segment
+  -- the gate is followed by the whole rest of an empty segment
   after_gate : checkpoint.rolled ≡ 2
       → drop 1 (slot_of old.seen (segment_slot (segment.epoch + 1))) ≡ epoch_encoding (segment.epoch + 1)
       ++ closed_gate ∷ []

@@ -1,4 +1,4 @@
--- The steps of rotating keep a store, and what a crash leaves within one stands for its state.
+-- The steps of rotating keep the invariant, and the contents after a crash during one represent the store's state.
 use Rattle.std.proofs.Common.{◌≡◌, inl, inr, ℕ, ◌+◌, ◌<◌, List, ◌∷◌, ◌++◌, [], length, take, drop, ap, subst, arith}
 use Rattle.std.specs.Prelude.{Some}
 use Rattle.disk.specs.Moments.{View, Passes, Follows, IsSynced}
@@ -15,7 +15,7 @@ use Rattle.store_layout.specs.Gates.{StandForState}
 use Rattle.store_half.specs.Changes.{FailsToRollClose, FailsToRollHead, FailsToRollOpen, RollsClose, RollsHead, RollsOpen}
 use Rattle.store_half.specs.Values.{CheckpointValue, StoreValue}
 
--- Over the views of the disks.
+-- For the views of the disks.
 
 module _ (old new : View) (segment : Segment) (checkpoint : CheckpointValue) (mid state : State)
     (keeps : IsCheckpointing old segment checkpoint mid state) where
@@ -135,7 +135,7 @@ module _ (old new : View) (segment : Segment) (checkpoint : CheckpointValue) (mi
             (subst (λ (n : ℕ). IsSynced new (segment_slot n)) at synced));
       }
 
--- Of the half that stores.
+-- For the store half.
 
 module _ {D : Type 0} (honest : Type 0) (view : D → View) (is_honest : honest) (old new : StoreValue D)
     (mid state : State) where
@@ -192,7 +192,7 @@ module _ {D : Type 0} (honest : Type 0) (view : D → View) (is_honest : honest)
       head_passes (view old.disk) (view new.disk) old.segment step.checkpoint mid state
       (under_way step.checkpoint kept step.under_way) step.next (step.passes is_honest)
 
-  -- the segment is opened in the state that the checkpoint's image is of
+  -- The segment is opened in the state of the checkpoint's image.
 
   pub roll_open_keeps : Keeps (view old.disk) old.segment old.checkpoint mid state → state ≡ mid
       → RollsOpen honest view old new → Keeps (view new.disk) new.segment new.checkpoint mid state

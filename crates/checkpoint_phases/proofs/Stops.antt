@@ -1,4 +1,4 @@
--- The post-crash contents in each phase of a checkpoint.
+-- The contents after a crash in each phase of a checkpoint.
 use Rattle.std.proofs.Common.{◌≡◌, inl, inr, ℕ, ◌+◌, ◌<◌, List, [], sym, ap, subst, ◌∙◌, arith}
 use Rattle.std.specs.Prelude.{Option, Some}
 use Rattle.std.proofs.lemmas.Bool.{cases_eq}
@@ -20,7 +20,7 @@ use Rattle.store_layout.specs.Standing.{InOne, InTwo, IsPassedImage}
 use Rattle.store_half.specs.Values.{CheckpointValue}
 
 module _ (disk : View) (epoch imaged : ℕ) (imaging : IsImaging disk epoch imaged) where
-  -- the next image is passed over
+  -- the next image is ignored
   pub imaging_passed : (c : Slots) → MayLeave disk c → IsPassedImage epoch (slot_of c (image_slot (epoch + 1)))
   imaging_passed c left = elim (cases_eq imaged 0) as (λ _. IsPassedImage epoch (slot_of c (image_slot (epoch + 1)))) [
     | inl none ↦ subst (IsPassedImage epoch)
@@ -29,7 +29,7 @@ module _ (disk : View) (epoch imaged : ℕ) (imaging : IsImaging disk epoch imag
     | inr some ↦ shut_image epoch (slot_of c (image_slot (epoch + 1))) (imaging.shut (omega (arith, some)) c left)
   ]
 
-  -- the other slots are as a read gives them
+  -- the other slots are as reads return them
   pub imaging_left : (c : Slots) → MayLeave disk c
       → c ≡ with_slot (without_image disk epoch) (image_slot (epoch + 1)) (slot_of c (image_slot (epoch + 1)))
   imaging_left c left =
@@ -60,7 +60,7 @@ second_left disk segment checkpoint mid state phase c left =
     (two_image_changed (without_image disk e) e phase.base phase.first phase.records
     (slot_of c (image_slot (e + 1))) phase.stands (imaging_passed disk e checkpoint.imaged phase.imaging c left))
 
--- the segment in use has its last gate
+-- The segment in use has its last gate.
 
 pub first_gate : (disk : View) (segment : Segment) (checkpoint : CheckpointValue) (state : State)
     → InFirst disk segment checkpoint state → (c : Slots) → MayLeave disk c
@@ -80,7 +80,7 @@ second_gate disk segment checkpoint mid state phase c left =
     (subst (λ (l : List ℕ). IsInUse e l phase.records)
     (sym (imaging_synced disk phase.former checkpoint.imaged phase.imaging e c left)) phase.in_use)
 
--- which phase a checkpoint is in
+-- The phase of a checkpoint.
 module _ (disk : View) (segment : Segment) (checkpoint : CheckpointValue) (mid state : State)
     (keeps : IsCheckpointing disk segment checkpoint mid state) where
   pub first_phase : checkpoint.rolled < 3 → InFirst disk segment checkpoint state
@@ -91,7 +91,7 @@ module _ (disk : View) (segment : Segment) (checkpoint : CheckpointValue) (mid s
   second_phase after =
       elim keeps.phase [ inl first ↦ absurd (omega (arith, after, first.before)) | inr second ↦ second ]
 
-  -- what a crash leaves of the next image's slot
+  -- The contents of the next image's slot after a crash.
 
   pub image_synced : checkpoint.imaged ≡ 0 → IsSynced disk (image_slot checkpoint.epoch)
   image_synced none = elim keeps.phase as (λ _. IsSynced disk (image_slot checkpoint.epoch)) [
@@ -105,7 +105,7 @@ module _ (disk : View) (segment : Segment) (checkpoint : CheckpointValue) (mid s
     | inr second ↦ subst (λ (n : ℕ). IsShut disk (image_slot n)) (sym second.epoch) (second.imaging.shut some)
   ]
 
-  -- and that of the next segment
+  -- the next segment's slot is synced until the segment is opened
   pub next_synced : checkpoint.rolled < 3 → IsSynced disk (segment_slot checkpoint.epoch)
   next_synced before =
       let phase = first_phase before in
@@ -119,7 +119,7 @@ module _ (disk : View) (segment : Segment) (checkpoint : CheckpointValue) (mid s
       (phase.rolling.closed (omega (arith, one))) in
       synced_shut (segment_slot checkpoint.epoch) disk (next_synced (omega (arith, one))) closed
 
--- a store that is kept within a checkpoint
+-- a store with the invariant during a checkpoint
 pub keeps_under_way : (disk : View) (segment : Segment) (found : Option CheckpointValue) (checkpoint : CheckpointValue)
     (mid state : State) → Keeps disk segment found mid state → found ≡ Some checkpoint
     → IsCheckpointing disk segment checkpoint mid state

@@ -10,7 +10,7 @@ use Rattle.ipc_model.specs.encodings.Encodings.{canonical_record}
 use Rattle.journal.specs.Batch.{BatchValue, Holds}
 use Rattle.journal.specs.declared.segment.Segment.{Segment}
 
--- Records that lead from one state to another, and are about to be stored as a batch, after this many others.
+-- Records that lead from one state to another, and are about to be stored as a batch after `count` other records.
 pub record IsReadyBatch (before after : State) (count : ℕ) (records : List Record) (batch : BatchValue) : Type 0 where
   pub run : Run before records after
   pub fit : FitCalls records

@@ -1,4 +1,4 @@
--- What the crates above use of the opening of stores, so that they name only one library.
+-- Re-exports from `recover`, so that crates above name only this one.
 pub use Rattle.recover.specs.Crashing.{CrashesKeep}
 pub use Rattle.recover.specs.Kept.{IsKept}
 pub use Rattle.recover.specs.Steps.{unrecorded_step}

@@ -1,5 +1,5 @@
-//! The two phases of a checkpoint: what a store's disk keeps to between the steps of the half that stores, and that
-//! each step keeps it.
+//! The two phases of a checkpoint: the invariant of a store's disk between the steps of the store half, and the proofs
+//! that each step keeps it.
 #![tactic(auto)]
 
 pub use recover::{Kernel, Opened, Recorder, open};

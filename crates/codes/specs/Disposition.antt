@@ -1,4 +1,4 @@
--- The dispositions by which a task hands rights over in a message or a call (mach_msg_type_name_t).
+-- Dispositions: how a message or a call transfers a right (mach_msg_type_name_t).
 use Rattle.std.specs.Prelude.{ℕ, Option, None, Some, ◌==◌, if◌then◌else◌}
 use Rattle.codes.specs.declared.disposition.Disposition.{Disposition}
 use Rattle.codes.specs.declared.disposition.Disposition.TheVariants.{MoveReceive, MoveSend, MoveSendOnce, CopySend, MakeSend, MakeSendOnce}
@@ -12,7 +12,7 @@ number_of_disposition CopySend = 19
 number_of_disposition MakeSend = 20
 number_of_disposition MakeSendOnce = 21
 
--- the disposition of a number, if it is one
+-- the disposition with a number, or None if there is none
 abbrev pub disposition_of : ℕ → Option Disposition
 disposition_of n =
     if n == number_of_disposition MoveReceive then Some MoveReceive

@@ -37,7 +37,7 @@ number_of RcvInSet = 0x1000_400a
 number_of RcvHeaderErrorKernel = 0x1000_480b
 number_of RcvHeaderErrorSpace = 0x1000_600b
 
--- the return codes, in the order of their numbers
+-- all return codes, in ascending order of their numbers
 abbrev pub all_codes : List KernReturn
 all_codes =
     Success ∷ NoSpace ∷ InvalidArgument ∷ Failure ∷ ResourceShortage ∷ NoAccess ∷ NotInSet ∷

@@ -1,14 +1,14 @@
--- What differs between the versions of a store's slots.
+-- The differences between the versions of a store's slots.
 use Rattle.std.specs.Prelude.{◌≢◌, ℕ}
 use Rattle.codes.specs.declared.limits.TheConstants.{MAX_QUEUE_LIMIT}
 use Rattle.codes.specs.declared.store_version.StoreVersion.{StoreVersion}
 use Rattle.codes.specs.declared.store_version.StoreVersion.TheVariants.{One, Two}
 
--- the version that slots are written in
+-- the version in which slots are written
 abbrev pub current : StoreVersion
 current = Two
 
--- a version's number, as a header has it
+-- a version's number, as a slot's header contains it
 abbrev pub version_number : StoreVersion → ℕ
 version_number One = 1
 version_number Two = 2
@@ -17,7 +17,7 @@ version_number Two = 2
 abbrev pub IsNoVersion : ℕ → Type 0
 IsNoVersion number = (version : StoreVersion) → version_number version ≢ number
 
--- how many messages a port's queue may be set to hold
+-- the maximum queue limit of a port in a version
 abbrev pub greatest_limit : StoreVersion → ℕ
 greatest_limit One = 16
 greatest_limit Two = MAX_QUEUE_LIMIT

@@ -1,7 +1,7 @@
-// The numbers of the calls, as they stand at the front of a frame. The calls on ports and messages have Mach's names;
-// those without the prefix are this server's own.
+// Call numbers, which a frame's content begins with. Calls on ports and messages have Mach's names; the calls without
+// that prefix are this server's own.
 
-/// The task moves to another space.
+/// Attaches the task to another space.
 pub const ATTACH: u32 = 0;
 
 pub const MACH_PORT_NAMES: u32 = 1;
@@ -39,13 +39,13 @@ pub const MACH_PORT_REQUEST_NOTIFICATION: u32 = 16;
 pub const MACH_PORT_INSERT_RIGHT: u32 = 17;
 
 pub const MACH_PORT_EXTRACT_RIGHT: u32 = 18;
-/// Sends and receives. Its reply has results whatever the code.
+/// Sends, receives, or both. Its reply has results whatever its code.
 pub const MACH_MSG: u32 = 19;
-/// Makes a space whose one name holds a right of the caller's.
+/// Creates a space with one name, which holds one of the caller's rights.
 pub const SPACE_CREATE: u32 = 20;
 /// Removes the caller's space with all its names.
 pub const SPACE_DESTROY: u32 = 21;
-/// Makes another call once, under a number that the task chooses.
+/// Makes another call at most once, under a request number that the task chooses.
 pub const NUMBERED: u32 = 22;
-/// Confines the connection to the space that it is attached to. It is no call of the machine.
+/// Confines the connection to the space that it is attached to. The kernel doesn't know this call.
 pub const CONFINE: u32 = 23;

@@ -1,7 +1,7 @@
 ghost use Rattle.std.specs.Prelude.{◌≡◌};
 ghost use Rattle.codes.specs.Disposition.{disposition_of};
 
-/// How a task hands a right over in a message or a call (`mach_msg_type_name_t`).
+/// How a message or a call transfers a right (`mach_msg_type_name_t`).
 #[derive(Clone, Copy, Debug, PartialEq, Eq)]
 pub enum Disposition {
     /// `MACH_MSG_TYPE_MOVE_RECEIVE`.
@@ -19,7 +19,7 @@ pub enum Disposition {
 }
 
 impl Disposition {
-    /// The disposition with this number, if there is one.
+    /// Returns the disposition with this number, or `None` if there is none.
     pub fn from_number(number: u32) -> Option<Disposition>
         ensures { result ≡ disposition_of number }
     {

@@ -43,14 +43,14 @@ pub enum KernReturn {
 }
 
 impl KernReturn {
-    /// The code's number, as it stands in a reply.
+    /// Returns the code's number, as replies contain it.
     pub fn number(self) -> u32
         ensures { result ≡ number_of self }
     {
         self as u32
     }
 
-    /// All codes, in the order of their numbers.
+    /// Returns all codes in ascending order of their numbers.
     pub fn all() -> [KernReturn; 32]
         ensures { result ≡ all_codes }
     {
@@ -90,7 +90,7 @@ impl KernReturn {
         ]
     }
 
-    /// The code with this number.
+    /// Returns the code with this number, or `None` if there is none.
     pub fn from_number(number: u32) -> Option<KernReturn>
         ensures found { IfSome result (λ code. number_of code ≡ number) }
         ensures only { (code : KernReturn) → number_of code ≡ number → result ≡ Some code }

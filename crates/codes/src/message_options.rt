@@ -3,7 +3,7 @@ ghost use Rattle.codes.specs.MessageOptions.{bits_of, option_rows, first_name};
 
 use bitflags::{Flag, Flags, bitflag_items};
 
-/// The options of `mach_msg`, as in its first argument.
+/// The options of `mach_msg`: its first argument.
 #[derive(Clone, Copy, Debug, PartialEq, Eq)]
 pub struct MessageOptions(u32);
 
@@ -22,7 +22,7 @@ bitflag_items! {
     }
 }
 
-/// Each option with its name, which is also its word in a script. (`FLAGS` has the names of the constants.)
+/// Each option with its name, which scripts use too. (`FLAGS` has the names of the constants.)
 const OPTIONS: [Flag<MessageOptions>; 5] = [
     Flag {
         name: "send",
@@ -69,7 +69,7 @@ impl Flags for MessageOptions {
 }
 
 impl MessageOptions {
-    /// The name of the first option that is set; empty if none is.
+    /// Returns the name of the first option that is set, or the empty string if none is.
     pub fn first_name(self) -> &'static str
         ensures { result.now ≡ first_name (bits_of self) }
     {

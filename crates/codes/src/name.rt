@@ -1,14 +1,14 @@
-/// The name that stands for no port.
+/// The null name: no port.
 pub const MACH_PORT_NULL: u32 = 0;
 
-/// The name that stands for a port that is dead.
+/// The name of a dead port.
 pub const MACH_PORT_DEAD: u32 = 0xffff_ffff;
 
-/// The least name that this server hands out by itself. A task may choose lower ones.
+/// The lowest name that this server chooses itself. A task may choose lower ones.
 pub const FIRST_NAME: u32 = 0x100;
 
-/// The number of the space that exists from the start. A connection's task is attached to it at first.
+/// Number of the space that a new store has. A new connection's task is attached to it.
 pub const FIRST_SPACE: u32 = 1;
 
-/// The number that stands for no space. A task that is attached to it is refused every call.
+/// Number of no space. Every call of a task that is attached to it is refused.
 pub const NO_SPACE: u32 = 0;

@@ -1,7 +1,7 @@
 ghost use Rattle.std.specs.Prelude.{◌≡◌, ◌<◌, ◌↔◌, IfSome, IsSome};
 ghost use Rattle.codes.specs.Right.{number_of, type_bit};
 
-/// A kind of right that a name may stand for (`mach_port_right_t`).
+/// A kind of right that a name may denote (`mach_port_right_t`).
 #[derive(Clone, Copy, Debug, PartialEq, Eq)]
 pub enum Right {
     Send = 0,
@@ -12,14 +12,14 @@ pub enum Right {
 }
 
 impl Right {
-    /// The right's number.
+    /// Returns the right's number.
     pub fn number(self) -> u32
         ensures { result ≡ number_of self }
     {
         self as u32
     }
 
-    /// The right with this number, if there is one.
+    /// Returns the right with this number, or `None` if there is none.
     pub fn from_number(number: u32) -> Option<Right>
         ensures known { IsSome result ↔ (number < 5) }
         ensures value { IfSome result (λ right. number_of right ≡ number) }
@@ -34,7 +34,7 @@ impl Right {
         }
     }
 
-    /// The right's bit in a name's type (`MACH_PORT_TYPE`): `1 << (16 + right)`.
+    /// Returns the right's bit in the type of a name (`MACH_PORT_TYPE`): `1 << (16 + right)`.
     pub fn type_bit(self) -> u32
         ensures { result ≡ type_bit self }
     {

@@ -3,8 +3,8 @@ ghost use Rattle.codes.specs.StoreVersion.{IsNoVersion, current, greatest_limit,
 
 use crate::MAX_QUEUE_LIMIT;
 
-/// A version of the encoding of a store's slots. The header of each slot says its version, and each slot is read by it.
-/// Servers write slots of version 2; until 2026-11-29 they wrote version 1.
+/// A version of the encoding of a store's slots. Each slot's header names the version in which the slot is encoded.
+/// Servers write version 2; until 2026-11-29 they wrote version 1.
 #[derive(Clone, Copy, Debug, PartialEq, Eq)]
 pub enum StoreVersion {
     /// Queues of at most 16 messages.
@@ -14,21 +14,21 @@ pub enum StoreVersion {
 }
 
 impl StoreVersion {
-    /// The version that slots are written in.
+    /// Returns the version in which slots are written.
     pub fn current() -> StoreVersion
         ensures { result ≡ current }
     {
         StoreVersion::Two
     }
 
-    /// The version's number, as a header has it.
+    /// Returns the version's number, as a slot's header contains it.
     pub fn number(self) -> u8
         ensures { result ≡ version_number self }
     {
         self as u8
     }
 
-    /// The version with this number, if there is one.
+    /// Returns the version with this number, or `None` if there is none.
     pub fn from_number(number: u8) -> Option<StoreVersion>
         ensures known { IfSome result (λ version. version_number version ≡ number) }
         ensures unknown { IfNone result (IsNoVersion number) }
@@ -40,7 +40,7 @@ impl StoreVersion {
         }
     }
 
-    /// How many messages a port's queue may be set to hold.
+    /// Returns the maximum queue limit of a port in this version.
     pub fn greatest_limit(self) -> u32
         ensures { result ≡ greatest_limit self }
     {

@@ -1,4 +1,4 @@
--- Parts of what was to be written.
+-- Prefixes of the bytes that were to be written.
 use Rattle.std.proofs.Common.{List, ℕ, ◌++◌, Option, Result, Ok, Err, sym, ap, ◌∙◌, append_assoc}
 use Rattle.std.specs.Prelude.{OnErr, OnOk}
 use Rattle.std.specs.Io.KnownBytes.{Appends}

@@ -1,9 +1,9 @@
--- What a program says about itself.
+-- The answers of a program about itself.
 use Rattle.std.specs.Prelude.{ℕ, List, ◌++◌, codes}
 use Rattle.command_line.specs.declared.about.Question.{Question}
 use Rattle.command_line.specs.declared.about.Question.TheVariants.{Help, Version}
 
--- after its name: the version, and the toolchain that it was proved with
+-- the version after the program's name, and the toolchain that it was proved with
 abbrev pub version_lines : List ℕ
 version_lines = codes " 0.1.0\nproved with Rattle logic dac8208d650f15bf\n"
 

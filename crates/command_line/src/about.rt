@@ -8,17 +8,17 @@ use crate::one_word;
 use std::io::Write;
 use wire::{WireFault, write_bytes};
 
-/// What a program is asked about itself.
+/// A question to a program about itself.
 #[derive(Clone, Copy, Debug, PartialEq, Eq)]
 pub enum Question {
-    /// How it is used.
+    /// Its usage.
     Help,
     /// Its version, and the toolchain that it was proved with.
     Version,
 }
 
-/// What the words ask about the program itself: `--help` or `--version`, if it is the only word. A folder with such a
-/// name is `./--help`.
+/// Returns the question in the arguments: `--help` or `--version`, if it is the only argument. A folder with such a
+/// name can be given as `./--help`.
 pub fn question_in(words: Option<&[String]>) -> Option<Question>
     ensures help { (result ≡ Some Question.Help) ↔ (option_map (λ texts. map string_bytes texts.now) words.entry
         ≡ Some (codes "--help" ∷ [])) }
@@ -32,8 +32,8 @@ pub fn question_in(words: Option<&[String]>) -> Option<Question>
     }
 }
 
-/// Writes what a program with this name and help is asked for, and flushes it. It returns the status to end with: 0, or
-/// 1 if the output can't be written, and then some first bytes may have been.
+/// Writes the answer of a program with this name and help, and flushes it. Returns the exit status: 0, or 1 if the
+/// output couldn't be written; then a prefix may have been written.
 pub fn tell_about<W: Write>(question: Question, name: &str, help: &str, output: &mut W) -> u8
     ensures ok { result ≡ 0 → Appends (W.contents output.old) (W.contents output.new)
         (printed name.now help.now question) }
@@ -50,7 +50,7 @@ pub fn tell_about<W: Write>(question: Question, name: &str, help: &str, output: 
     }
 }
 
-/// Writes a whole text, and flushes it. If the writer fails, some first bytes may have been written.
+/// Writes a whole text, and flushes it. If the writer fails, a prefix may have been written.
 fn send<W: Write>(output: &mut W, text: &str) -> Result<(), WireFault>
     ensures ok { OnOk result (Appends (W.contents output.old) (W.contents output.new) text.now) }
     ensures part { OnErr result (AppendsPart (W.contents output.old) (W.contents output.new) text.now) }

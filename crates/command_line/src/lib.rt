@@ -1,4 +1,4 @@
-//! The words of a program's command line, and what a program says of itself.
+//! The arguments of a program, and its answers about itself.
 #![tactic(auto)]
 
 mod about;

@@ -5,9 +5,10 @@ use std::alloc::AllocGlobal;
 use std::env;
 use std::rt::Env;
 
-/// The words after the program's name; `None` if they can't be read: one isn't UTF-8, or memory for them ran out.
+/// Returns the arguments after the program's name, or `None` if they can't be read: one isn't UTF-8, or there is no
+/// memory for them.
 ///
-/// No contract can say what the system passes as words.
+/// No contract can describe the arguments that the system passes.
 pub fn read_words<R: Env + AllocGlobal>(rt: &R) -> Option<Vec<String>> {
     let mut words = Vec::new(rt.alloc());
     for word in env::args(rt).ok()?.skip(1) {
@@ -16,7 +17,7 @@ pub fn read_words<R: Env + AllocGlobal>(rt: &R) -> Option<Vec<String>> {
     Some(words)
 }
 
-/// The word, if there is exactly one.
+/// Returns the argument, if there is exactly one.
 pub fn one_word(words: Option<&[String]>) -> Option<&str>
     ensures one { IfSome result (λ word. option_map (λ texts. map string_bytes texts.now) words.entry
         ≡ Some (word.now ∷ [])) }

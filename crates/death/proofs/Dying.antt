@@ -1,4 +1,4 @@
--- What the death of a port sets off, step by step.
+-- The effects of a port's death, step by step.
 use Rattle.std.proofs.Common.{◌≡◌, ◌==◌, ℕ, Bool, true, false, cond, not, List, [], ◌∷◌, ◌++◌, Option, None, Some, Result, Ok, Err, OnOk, flat_map, refl, sym, ◌∙◌, ap, append_assoc}
 use Rattle.std.specs.FinMap.{get, insert}
 use Rattle.ipc_model.specs.declared.message.Message.{Message}
@@ -29,7 +29,7 @@ all_released (Ok v) state serial target old first second new released sent last 
     ∙ (ap (λ (l : List Effect). l ++ rest) (sent ∙ ap (λ (l : List Effect). l ++ dead) one)
     ∙ (append_assoc (old ++ rights) dead rest ∙ append_assoc old rights (dead ++ rest))))
 
--- a send-once right's notice, which is dropped if the port is dead
+-- the notice of a released send-once right is dropped if the port is dead
 notified_is_released : (state : Ipc) (serial : ℕ)
     → notified state serial notice.SendOnce ≡ (released_if_live state serial kind.SendOnce (get state.ports serial)).0
 notified_is_released state serial = by_case (get state.ports serial) refl
@@ -54,7 +54,7 @@ pub notified_once : {T E : Type 0} (r : Result T E) (state new : Ipc) (serial : 
 notified_once (Err e) state new serial sent = tt
 notified_once (Ok v) state new serial sent = sent ∙ notified_is_released state serial
 
--- while send rights are left, no notice is sent
+-- while send rights exist, no notice is sent
 pub senders_left : (state : Ipc) (serial : ℕ) (o : Option PortState) → not (send_count state serial == 0) ≡ true
     → state ≡ (released_if_live state serial kind.Send o).0
 senders_left state serial None left = refl

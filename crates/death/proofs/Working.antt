@@ -29,7 +29,7 @@ module _ (state new : Ipc) (effects rest after : List Effect) (first : Effect)
 pub all_done : (state : Ipc) (effects : List Effect) → effects ≡ [] → Settles state effects state
 all_done state effects none = subst (λ (es : List Effect). Settles state es state) (sym none) settled
 
--- a live port lives whatever it keeps
+-- a live port stays live if its numbers or parts change
 pub lives_on : (state new : Ipc) (serial : ℕ) (numbers : PortNumbers) (change : PortState → PortState)
     → option_map numbers_of (get state.ports serial) ≡ Some numbers → new ≡ with_port state serial change
     → lives new serial ≡ true

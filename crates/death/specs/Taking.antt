@@ -1,10 +1,10 @@
--- Where a released receive right goes.
+-- The destination of a released receive right.
 use Rattle.std.specs.Prelude.{ℕ, ◌&&◌, not, Option, None, Some, if◌then◌else◌}
 use Rattle.ipc_model.specs.state.Circular.{is_circular}
 use Rattle.ipc_model.specs.state.Ipc.{Ipc, lives}
 
--- The target of a port-destroyed request that takes the receive right of a port along, if the target lives and the
--- right would not come back to the port's own queue.
+-- The target of a port-destroyed request, if it takes the port's receive right along: it is live, and the right would
+-- not come back to the port's own queue.
 abbrev pub taker : Ipc → ℕ → Option ℕ → Option ℕ
 taker state serial None = None
 taker state serial (Some target) =

@@ -1,4 +1,4 @@
-//! What rights that go set off: notices, and the death of ports. The effects of a call are drained here.
+//! Effects of released rights: notices, and the death of ports. This crate drains the effects of a call.
 #![tactic(auto)]
 
 mod notices;

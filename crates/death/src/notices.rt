@@ -8,8 +8,8 @@ use effects::Notice;
 use std::alloc::{AllocError, Global};
 use transit::IpcState;
 
-/// Queues a notice at its target's port, whatever the queue's limit. If the port is dead, the notice is dropped. If an
-/// allocation fails, the changes must be rolled back.
+/// Queues a notice at its target's port, regardless of the queue's limit. If the port is dead, the notice is dropped.
+/// If an allocation fails, the changes must be rolled back.
 pub fn notify(
     alloc: Global,
     state: &mut IpcState,
@@ -23,7 +23,7 @@ pub fn notify(
     state.queue_message(target, message)
 }
 
-/// Queues the port-destroyed notice that carries the receive right of a live port, in the same way.
+/// Queues the port-destroyed notice that carries the receive right of a live port, regardless of the queue's limit.
 pub fn notify_port_destroyed(
     alloc: Global,
     state: &mut IpcState,

@@ -11,8 +11,8 @@ use ipc_model::RightKind;
 use std::alloc::{AllocError, Global};
 use transit::{IpcState, PortNumbers, would_circle};
 
-/// A receive right was released. A port-destroyed request takes it along, unless it would come back to its own queue;
-/// else the port dies.
+/// Handles a released receive right. A port-destroyed request takes the right along, unless it would come back to its
+/// own queue. Without such a request the port dies.
 pub fn release_receive(
     alloc: Global,
     state: &mut IpcState,
@@ -34,7 +34,7 @@ pub fn release_receive(
     }
 }
 
-/// The target that a released receive right goes to, if it goes to one.
+/// Returns the target that takes a released receive right along, or `None` if the port dies.
 fn taker(state: &IpcState, serial: u64, request: Option<u64>) -> Option<u64>
     ensures { result ≡ taker state.now.current serial request }
 {
@@ -66,9 +66,9 @@ fn send_to_target(
     notify_port_destroyed(alloc, state, target, serial)
 }
 
-/// A port dies: the rights of its messages are released, names of it become dead names with their notices, carried
-/// rights to it become `MACH_PORT_DEAD`, requests whose target it is are removed, and the target that no notice will go
-/// to is released.
+/// Makes a port die. The rights of its messages are released, names of it become dead names with their notices, and
+/// carried rights to it become `MACH_PORT_DEAD`. Requests whose target it is are removed, and the targets of its own
+/// requests are released if no notice will go to them.
 fn die(
     state: &mut IpcState,
     serial: u64,

@@ -8,7 +8,7 @@ use ipc_model::RightKind;
 use std::alloc::{AllocError, Global};
 use transit::{IpcState, PortNumbers};
 
-/// A send right was released. If none is left, a no-senders request is taken, and its notice goes out.
+/// Handles a released send right. If it was the last one, a no-senders request is taken, and its notice is sent.
 pub fn release_send(alloc: Global, state: &mut IpcState, serial: u64) -> Result<(), AllocError>
     ensures ok { OnOk result (state.new.current
         ≡ (released_if_live state.old.current serial RightKind.Send (map.get state.old.current.ports serial)).0) }
@@ -32,7 +32,7 @@ pub fn release_send(alloc: Global, state: &mut IpcState, serial: u64) -> Result<
     notify(alloc, state, target, Notice::NoSenders { count })
 }
 
-/// A send-once right was released. It is used to send a send-once notice.
+/// Handles a released send-once right: uses it to send a send-once notice.
 pub fn release_send_once(alloc: Global, state: &mut IpcState, serial: u64) -> Result<(), AllocError>
     ensures ok { OnOk result (state.new.current
         ≡ (released_if_live state.old.current serial RightKind.SendOnce (map.get state.old.current.ports serial)).0) }

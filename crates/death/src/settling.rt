@@ -11,8 +11,8 @@ use ipc_model::RightKind;
 use std::alloc::{AllocError, Global};
 use transit::IpcState;
 
-/// Drains the effects of a call, each in its turn, until none is left; deaths add to them. If an allocation fails, the
-/// changes must be rolled back.
+/// Drains the effects of a call in their order until none is left. Deaths append further effects. If an allocation
+/// fails, the changes must be rolled back.
 pub fn settle(alloc: Global, state: &mut IpcState, effects: &mut Effects) -> Result<(), AllocError>
     ensures settled { OnOk result (Settles state.old.current effects.old state.new.current) }
     ensures before { state.new.before ≡ state.old.before }
@@ -23,7 +23,7 @@ pub fn settle(alloc: Global, state: &mut IpcState, effects: &mut Effects) -> Res
     Ok(())
 }
 
-/// Runs one effect; what it sets off goes to the end of the list.
+/// Runs one effect, and appends the effects that follow from it.
 #[tactic(auto, unfolding(ipc_model::specs::effects::Effects::effect))]
 fn run(
     alloc: Global,

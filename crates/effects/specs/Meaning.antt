@@ -1,4 +1,4 @@
--- The notices and effects of the program as those of the abstract specification.
+-- The program's notices and effects as those of the abstract specification.
 use Rattle.effects.specs.declared.effect.Effect.{Effect}
 use Rattle.effects.specs.declared.effect.Effect.TheVariants as this
 use Rattle.effects.specs.declared.notice.Notice.{Notice}

@@ -1,4 +1,4 @@
-//! The effects of a call, which wait for their turn in one list: first in, first out.
+//! The pending effects of a call, in a queue: first in, first out.
 #![tactic(auto)]
 
 mod effect;

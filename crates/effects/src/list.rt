@@ -8,7 +8,7 @@ use std::alloc::{AllocError, Global};
 use std::collections::VecDeque;
 use std::marker::Model;
 
-/// The effects that wait. Contracts see them as a list.
+/// The pending effects. Contracts see them as a list.
 #[derive(Drop)]
 pub struct Effects {
     waiting: VecDeque<Effect>,
@@ -26,7 +26,7 @@ impl Model for Effects {
 }
 
 impl Effects {
-    /// No effects. It takes no memory.
+    /// Creates an empty list. It allocates nothing.
     pub fn new(alloc: Global) -> Self
         ensures { result ≡ [] }
     {
@@ -35,7 +35,7 @@ impl Effects {
         }
     }
 
-    /// Adds an effect at the end. If an allocation fails, nothing changed.
+    /// Appends an effect. If an allocation fails, nothing changed.
     pub fn push(&mut self, effect: Effect) -> Result<(), AllocError>
         ensures ok { OnOk result (self.new ≡ self.old ++ effect_meant effect ∷ []) }
         ensures err { OnErr result (self.new ≡ self.old) }
@@ -44,7 +44,7 @@ impl Effects {
         Ok(())
     }
 
-    /// Takes the first effect out, if there is one.
+    /// Removes and returns the first effect, if there is one.
     pub fn take(&mut self) -> Option<Effect>
         ensures { MatchOption result ((self.old ≡ []) × (self.new ≡ []))
             (λ first. self.old ≡ effect_meant first ∷ self.new) }
@@ -52,7 +52,7 @@ impl Effects {
         self.waiting.pop_front()
     }
 
-    /// Adds the release of a right that a message carried, if it is a right to a port.
+    /// Appends the release of a right that a message carried, if it is a right to a port.
     pub fn release(&mut self, carried: CarriedRight) -> Result<(), AllocError>
         ensures ok { OnOk result (self.new ≡ self.old ++ machine.release_of carried) }
         ensures err { OnErr result (self.new ≡ self.old) }
@@ -64,7 +64,7 @@ impl Effects {
         self.push(Effect::Release { kind, port })
     }
 
-    /// Adds the releases of a destroyed message's reply right and body rights, in this order.
+    /// Appends the releases of a destroyed message's reply right and body rights, in this order.
     pub fn release_message(&mut self, message: &Message) -> Result<(), AllocError>
         ensures { OnOk result (self.new ≡ self.old ++ machine.releases_of message.now) }
     {
@@ -83,7 +83,7 @@ impl Effects {
         Ok(())
     }
 
-    /// Adds the notice that a name with this request ceased to exist, if there is a request.
+    /// Appends the notice that a name with this request was removed, if there is a request.
     pub fn port_deleted(&mut self, name: u32, request: Option<u64>) -> Result<(), AllocError>
         ensures ok { OnOk result (self.new ≡ self.old ++ machine.port_deleted name request) }
         ensures err { OnErr result (self.new ≡ self.old) }
@@ -95,7 +95,7 @@ impl Effects {
         self.push(Effect::Notify { target, notice })
     }
 
-    /// Adds the notice that a name with this request has become a dead name, if there is a request.
+    /// Appends the notice that a name with this request became a dead name, if there is a request.
     pub fn dead_name(&mut self, name: u32, request: Option<u64>) -> Result<(), AllocError>
         ensures ok { OnOk result (self.new ≡ self.old ++ machine.dead_name_notice name request) }
         ensures err { OnErr result (self.new ≡ self.old) }
@@ -107,7 +107,7 @@ impl Effects {
         self.push(Effect::Notify { target, notice })
     }
 
-    /// Adds the release of a request's target, if there is a request.
+    /// Appends the release of a request's target, if there is a request.
     pub fn release_target(&mut self, request: Option<u64>) -> Result<(), AllocError>
         ensures ok { OnOk result (self.new ≡ self.old ++ machine.release_of_target request) }
         ensures err { OnErr result (self.new ≡ self.old) }

@@ -1,4 +1,4 @@
--- What clauses see of an epoch log, and of the records that it gives out.
+-- The values of an epoch log, and of the records that it releases, in contracts.
 use Rattle.std.specs.Prelude.{◌≡◌, ℕ, ◌+◌, if◌then◌else◌, refl}
 use Rattle.std.specs.Coded.{Coded, code_by, coded×, coded_ℕ}
 use Rattle.ipc_model.specs.calls.Step.{has_record}
@@ -8,8 +8,8 @@ use Rattle.ipc_model.specs.declared.record.Record.{Record}
 use Rattle.ipc_model.specs.encodings.Encodings.{canonical_record, record_encoding, IsRecord}
 use Rattle.journal.specs.Batch.{BatchValue, batch_code, empty_batch, with_encoding}
 
--- The log of an epoch: how many records it has, how many were made since the store was opened, in all epochs, and the
--- ones that wait to be taken, the log's last.
+-- The log of an epoch: the number of its records; the number of records that were made since the store was opened, in
+-- all epochs; and the last records of the log, which haven't been taken yet.
 pub record EpochLogValue : Type 0 where
   pub length : ℕ
   pub made : ℕ
@@ -23,7 +23,7 @@ log_code =
 abbrev pub entry_of : ℕ → Call → Reply → Record
 entry_of space c answer = record { space = space; call = c; reply = answer }
 
--- one more record, which has the next number
+-- the log with one more record, which has the next number
 abbrev pub with_record : EpochLogValue → Record → EpochLogValue
 with_record log entry =
     record {
@@ -32,16 +32,16 @@ with_record log entry =
       waiting = with_encoding log.waiting (record_encoding log.length entry);
     }
 
--- an epoch log after a call with this reply
+-- the log after a call with this reply
 abbrev pub log_after : EpochLogValue → ℕ → Call → Reply → EpochLogValue
 log_after log space c answer = if has_record c answer then with_record log (entry_of space c answer) else log
 
--- A record was added to an epoch log, and what is kept of it is one that a segment may hold.
+-- A record was appended to the log, and its canonical form is valid in a segment.
 abbrev pub Wrote : EpochLogValue → ℕ → Call → Reply → EpochLogValue → Type 0
 Wrote old space c answer new =
     (new ≡ with_record old (entry_of space c answer)) × IsRecord (canonical_record (entry_of space c answer))
 
--- the log of the next epoch, which has no record
+-- the log of the next epoch, without records
 abbrev pub next_log : EpochLogValue → EpochLogValue
 next_log log = record { length = 0; made = log.made; waiting = empty_batch }
 

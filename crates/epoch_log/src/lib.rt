@@ -1,4 +1,4 @@
-//! Epoch logs, and the records that they give out to be stored. Only an epoch log gives such records out.
+//! Epoch logs, and the records that they release to be stored. Only an epoch log releases such records.
 #![tactic(auto)]
 
 mod log;

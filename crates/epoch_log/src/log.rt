@@ -15,18 +15,18 @@ use record::in_range;
 use std::alloc::{AllocError, Global};
 use std::marker::Model;
 
-/// An epoch log: the records that an epoch's segment holds or will hold. It keeps those that wait to be taken, encoded
-/// as they are stored.
+/// An epoch log: the records that an epoch's segment holds or will hold. It contains those that haven't been taken yet,
+/// encoded as they are stored.
 pub struct EpochLog {
     alloc: Global,
     length: u64,
 
-    // How many records were made since the store was opened, in all epochs.
+    // Number of records that were made since the store was opened, in all epochs.
     made: u64,
     waiting: Batch,
 }
 
-// Written out, so that proofs above know one function and not its parts.
+// Written by hand, so that proofs of the crates above depend on one function instead of its parts.
 impl Drop for EpochLog {
     fn drop(self) {
         let EpochLog {
@@ -54,7 +54,7 @@ impl Model for EpochLog {
 }
 
 impl EpochLog {
-    /// The log of an epoch whose segment holds `length` records. It takes no memory.
+    /// Creates the log of an epoch whose segment holds `length` records. It allocates nothing.
     pub fn new(alloc: Global, length: u64) -> Self
         ensures { result ≡ record { length = length; made = 0; waiting = empty_batch } }
     {
@@ -66,14 +66,14 @@ impl EpochLog {
         }
     }
 
-    /// How many records it has.
+    /// Returns the number of records in the epoch.
     pub fn len(&self) -> u64
         ensures { result ≡ self.now.length }
     {
         self.length
     }
 
-    /// How many records were made.
+    /// Returns the number of records that were made.
     pub fn made(&self) -> u64
         ensures made { result ≡ self.now.made }
         ensures within { self.now.made < 2 ^ 64 }
@@ -81,15 +81,15 @@ impl EpochLog {
         self.made
     }
 
-    /// How many of its records wait to be taken.
+    /// Returns the number of records that haven't been taken yet.
     pub fn waiting(&self) -> u32
         ensures { result ≡ self.now.waiting.count }
     {
         self.waiting.count()
     }
 
-    /// Adds the record of a call with this reply, and returns how many bytes its encoding has. If an allocation fails,
-    /// nothing changed.
+    /// Appends the record of a call with this reply, and returns the length of its encoding in bytes. If an allocation
+    /// fails, nothing changed.
     pub fn push(&mut self, space: u32, call: &Call, reply: &Reply) -> Result<usize, AllocError>
         requires room { (self.old.length < MAX_RECORDS) × (self.old.made < 2 ^ 64 - 1) }
         requires whole { IsAnsweredWhole call.now reply.now }
@@ -106,7 +106,7 @@ impl EpochLog {
         Ok(size)
     }
 
-    /// Removes the last record, whose encoding has `size` bytes and which waits.
+    /// Removes the last record, which wasn't taken yet and whose encoding has `size` bytes.
     pub fn remove_last(&mut self, size: usize)
         requires some { 0 < self.old.waiting.count }
         requires made { 0 < self.old.made }
@@ -122,7 +122,7 @@ impl EpochLog {
         self.made -= 1;
     }
 
-    /// Takes the log out, and leaves an empty one.
+    /// Returns the log, and leaves an empty one.
     pub fn take_out(&mut self) -> EpochLog
         ensures taken { result ≡ self.old }
         ensures left { self.new ≡ record { length = 0; made = 0; waiting = empty_batch } }
@@ -131,7 +131,7 @@ impl EpochLog {
         std::mem::replace(self, empty)
     }
 
-    /// Takes the records that wait, which are of this epoch, and puts an empty batch in their place.
+    /// Returns the records that weren't taken yet, which are of this epoch, and replaces them by an empty batch.
     pub fn take(&mut self, epoch: u64, empty: Batch) -> Taken
         requires { empty ≡ empty_batch }
         ensures taken { result ≡ record { epoch = epoch; batch = self.old.waiting } }
@@ -141,7 +141,8 @@ impl EpochLog {
         Taken { epoch, batch }
     }
 
-    /// Takes the records that wait, which are of this epoch, and becomes the next epoch's log. It takes no memory.
+    /// Returns the records that weren't taken yet, which are of this epoch, and turns into the next epoch's log. It
+    /// allocates nothing.
     pub fn end(&mut self, epoch: u64) -> Taken
         ensures taken { result ≡ record { epoch = epoch; batch = self.old.waiting } }
         ensures left { self.new ≡ next_log self.old }

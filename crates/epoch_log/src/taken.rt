@@ -4,13 +4,13 @@ ghost use Rattle.journal.specs.Batch.{empty_batch};
 use journal::Batch;
 use std::marker::Model;
 
-/// Records of one epoch that were taken to be stored. Only an epoch log gives them out, and they can't be copied.
+/// Records of one epoch that were taken to be stored. Only an epoch log creates them, and they can't be copied.
 pub struct Taken {
     pub(crate) epoch: u64,
     pub(crate) batch: Batch,
 }
 
-// Written out, so that proofs above know one function and not its parts.
+// Written by hand, so that proofs of the crates above depend on one function instead of its parts.
 impl Drop for Taken {
     fn drop(self) {
         let Taken { epoch: _, batch } = self;
@@ -29,7 +29,7 @@ impl Model for Taken {
 }
 
 impl Taken {
-    /// No records of an epoch. It keeps the room of this batch.
+    /// Creates a value without records. It keeps the memory of this batch.
     pub fn none(epoch: u64, empty: Batch) -> Self
         requires { empty ≡ empty_batch }
         ensures { result ≡ record { epoch = epoch; batch = empty_batch } }
@@ -40,28 +40,28 @@ impl Taken {
         }
     }
 
-    /// The epoch in whose segment they are stored.
+    /// Returns the epoch in whose segment they are stored.
     pub fn epoch(&self) -> u64
         ensures { result ≡ self.now.epoch }
     {
         self.epoch
     }
 
-    /// How many records they are.
+    /// Returns the number of records.
     pub fn count(&self) -> u32
         ensures { result ≡ self.now.batch.count }
     {
         self.batch.count()
     }
 
-    /// The records, as they are stored.
+    /// Returns the records as they are stored.
     pub fn batch(&self) -> &Batch
         ensures { result.now ≡ self.now.batch }
     {
         &self.batch
     }
 
-    /// An empty batch, with the room of this one.
+    /// Returns an empty batch with the memory of this one.
     pub fn into_empty(self) -> Batch
         ensures { result ≡ empty_batch }
     {

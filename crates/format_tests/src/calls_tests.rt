@@ -15,10 +15,10 @@ use std::alloc::Global;
 use std::process::Abort;
 use wire::Frame;
 
-// No function here says what the library returns, so that a test's proof carries nothing of it. A function that owns a
-// call or an encoding has one exit, which drops it. It passes on what was seen with its `None`s, which no test expects.
+// These functions have no contracts, so that a test's proof carries nothing of the library. A function that owns a call
+// or an encoding has one exit, which drops it. It returns what it found with its `None`s, which no test expects.
 
-// Numbers of four bytes, lowest byte first.
+// Returns numbers of four bytes, little-endian.
 fn encoding_of(alloc: Global, numbers: &[u32]) -> Option<Vec<u8>> {
     let mut encoding = Vec::new(alloc);
     for number in numbers {
@@ -38,12 +38,12 @@ fn call_of_line(alloc: Global, line: &str) -> Option<Call> {
     read_request_line(alloc, line.as_bytes()).ok()
 }
 
-// The call of a record, if this is its encoding.
+// Returns the call of a record, if this is its encoding.
 fn call_of_record(alloc: Global, encoding: &[u8]) -> Option<Option<Call>> {
     read_call(alloc, encoding).ok()
 }
 
-// What a frame with this content asks for, if it is a request.
+// Returns the request of a frame with this content.
 fn request_of(alloc: Global, content: &[u8]) -> Option<Result<Request, CallFault>> {
     let frame = frame_of(alloc, content)?;
     let request = read_request(alloc, frame.content());
@@ -62,7 +62,7 @@ fn is_encoded_as(alloc: Global, call: &Call, encoding: &[u8]) -> Option<bool> {
     Some(written.as_slice() == encoding)
 }
 
-// Whether there is a call, and this is its encoding.
+// Returns true if there is a call, and this is its encoding.
 fn is_found_as(alloc: Global, call: Option<Call>, encoding: &[u8]) -> Option<bool> {
     let call = call?;
     let encoded = is_encoded_as(alloc, &call, encoding);
@@ -70,7 +70,8 @@ fn is_found_as(alloc: Global, call: Option<Call>, encoding: &[u8]) -> Option<boo
     encoded
 }
 
-// Whether this is the encoding of a line's call, and is written again after it was read from a record.
+// Returns two flags: this is the encoding of a line's call; and reading it from a record and writing it again gives the
+// same bytes.
 fn record_encodings(alloc: Global, line: &str, encoding: &[u8]) -> Option<[Option<bool>; 2]> {
     let read = call_of_record(alloc, encoding)?;
     Some([
@@ -79,7 +80,7 @@ fn record_encodings(alloc: Global, line: &str, encoding: &[u8]) -> Option<[Optio
     ])
 }
 
-// Whether one call is asked for, and this is its encoding.
+// Returns true if a request is for one call, and this is its encoding.
 fn is_asked_as(alloc: Global, request: &Request, encoding: &[u8]) -> Option<bool> {
     match request {
         Request::One(call) => is_encoded_as(alloc, call, encoding),
@@ -87,7 +88,7 @@ fn is_asked_as(alloc: Global, request: &Request, encoding: &[u8]) -> Option<bool
     }
 }
 
-// Whether a frame of these bytes asks for a call that is encoded as these bytes again.
+// Returns true if the request of a frame with these bytes is a call with the same encoding.
 fn frame_encoding(alloc: Global, encoding: &[u8]) -> Option<bool> {
     let request = request_of(alloc, encoding)?.ok()?;
     let encoded = is_asked_as(alloc, &request, encoding);
@@ -104,7 +105,7 @@ fn is_no_call_of_record(alloc: Global, encoding: &[u8]) -> Option<bool> {
     Some(!is_there(call_of_record(alloc, encoding)?))
 }
 
-// Whether an encoding with one more byte is no call, neither in a frame nor in a record.
+// Returns two flags: an encoding with one more byte is no call, neither in a frame nor in a record.
 fn is_no_call_if_longer(alloc: Global, encoding: &mut Vec<u8>) -> Option<[bool; 2]> {
     encoding.push(0).ok()?;
     Some([
@@ -113,8 +114,8 @@ fn is_no_call_if_longer(alloc: Global, encoding: &mut Vec<u8>) -> Option<[bool; 
     ])
 }
 
-// How a call is encoded: from its line and from a record, and from a frame; and whether its encoding with one more byte
-// is no call.
+// The encodings of a call: from its line and from a record, and from a frame; and the flags that its encoding with one
+// more byte is no call.
 type Encodings = (Option<[Option<bool>; 2]>, Option<bool>, Option<[bool; 2]>);
 
 fn encodings(alloc: Global, line: &str, numbers: &[u32]) -> Option<Encodings> {
@@ -161,7 +162,7 @@ fn calls_as_bytes(rt: HostRuntime) {
     }
 }
 
-// A send of 28 bytes as a record has it.
+// A send of 28 bytes as in a record.
 const SEND: [u8; 48] = [
     19, 0, 0, 0, 1, 0, 0, 0, 0, 0, 0, 0, 0, 0, 0, 0, 0, 0, 0, 0, 19, 0, 0, 0, 0, 0, 0, 0, 0, 1, 0,
     0, 0, 0, 0, 0, 0, 0, 0, 0, 7, 0, 0, 0, 68, 51, 34, 17,
@@ -213,12 +214,12 @@ fn receives_as_records_have_them(rt: HostRuntime) {
         let encoded = record_encodings_in_words(rt.alloc(), line, numbers);
         same_in_row(&rt, *line, encoded, Some([Some(true); 2]));
     }
-    // It has waited or not.
+    // With and without `waited`.
     let encoding = b"\x13\0\0\0\x02\0\0\0\x1c\0\0\0\0\x01\0\0\x02\0\0\0";
     same(&rt, is_no_call_of_record(rt.alloc(), encoding), Some(true));
 }
 
-// What a frame with these numbers and this message asks for.
+// Returns the request of a frame with these numbers and this message.
 fn asked(alloc: Global, numbers: &[u32], message: &[u8]) -> Option<Request> {
     let mut content = encoding_of(alloc, numbers)?;
     content.extend_from_slice(message).ok()?;
@@ -233,18 +234,18 @@ fn canonical_call_bytes(alloc: Global, call: &Call) -> Option<Vec<u8>> {
     Some(encoding)
 }
 
-// Whether what a request sends is kept as these bytes.
+// Returns true if the message that a request sends has these bytes in canonical form.
 fn is_kept_as(alloc: Global, request: &MessageRequest, kept: &[u8]) -> Option<bool> {
     let encoding = canonical_call_bytes(alloc, request.send.as_ref()?)?;
     Some(encoding.as_slice() == kept)
 }
 
-// How long a request's send may wait, and its receive.
+// Returns the timeouts of a request's send and receive.
 fn timeouts(request: &MessageRequest) -> [Option<u32>; 2] {
     [request.send_timeout, request.receive_timeout]
 }
 
-// Whether a request's send is kept as these bytes, whether it receives nothing, and its timeouts.
+// The canonical form of a request's send is these bytes; the request receives nothing; its timeouts.
 type SendSeen = (Option<bool>, bool, [Option<u32>; 2]);
 
 fn send_seen(alloc: Global, request: &Request, kept: &[u8]) -> Option<SendSeen> {
@@ -258,7 +259,7 @@ fn send_seen(alloc: Global, request: &Request, kept: &[u8]) -> Option<SendSeen> 
     }
 }
 
-// What is seen of a `mach_msg` that sends this message.
+// Returns these facts about a `mach_msg` that sends this message.
 fn send_asked(alloc: Global, message: &[u8], kept: &[u8]) -> Option<SendSeen> {
     let request = asked(alloc, &[19, 0x11, 5, 6, 7], message)?;
     let seen = send_seen(alloc, &request, kept);
@@ -281,15 +282,15 @@ fn a_send_is_kept_without_what_it_ignores(rt: HostRuntime) {
     }
 }
 
-// A receive as a record has it.
+// A receive as in a record.
 const RECEIPT: &[u8; 20] = b"\x13\0\0\0\x02\x08\0\0\x1c\0\0\0\0\x01\0\0\0\0\0\0";
 
-// Whether there is a call, which stays its owner's, and this is its encoding.
+// Returns true if there is a call, which its owner keeps, and this is its encoding.
 fn is_part_as(alloc: Global, call: &Option<Call>, encoding: &[u8]) -> Option<bool> {
     is_encoded_as(alloc, call.as_ref()?, encoding)
 }
 
-// Whether a request has the send and the receive, and its timeouts.
+// A request has this send and this receive; its timeouts.
 type PartsSeen = ([Option<bool>; 2], [Option<u32>; 2]);
 
 fn parts_seen(alloc: Global, request: &Request) -> Option<PartsSeen> {
@@ -318,7 +319,7 @@ fn a_mach_msg_sends_and_receives(rt: HostRuntime) {
     same(&rt, parts_asked(rt.alloc()), Some(wanted));
 }
 
-// Whether a frame with this content confines its connection.
+// Returns true if a frame with this content confines its connection.
 fn confines(alloc: Global, content: &[u8]) -> Option<bool> {
     let request = request_of(alloc, content)?.ok()?;
     let is_confine = match &request {
@@ -340,7 +341,7 @@ fn number_23_confines_and_has_no_arguments(rt: HostRuntime) {
     same(&rt, seen, [Some(true), Some(false), None, None]);
 }
 
-// The code with which a request is answered at once.
+// Returns the code with which a request is answered at once.
 fn answer_of(request: &Request) -> Option<KernReturn> {
     match request {
         Request::Answered(code) => Some(*code),
@@ -348,7 +349,7 @@ fn answer_of(request: &Request) -> Option<KernReturn> {
     }
 }
 
-// The code with which a `mach_msg` with this option is answered at once.
+// Returns the code with which a `mach_msg` with this option is answered at once.
 fn answer_at_once(alloc: Global, option: u32) -> Option<KernReturn> {
     let request = asked(alloc, &[19, option, 28, 0x100, 0], b"ab")?;
     let answer = answer_of(&request);
@@ -373,7 +374,7 @@ fn a_mach_msg_that_asks_for_nothing(rt: HostRuntime) {
     same(&rt, is_no_request(rt.alloc(), short), Some(true));
 }
 
-// Whether this is how a reply is encoded into a `Vec`.
+// Returns true if this is the encoding of a reply in a `Vec`.
 fn is_pushed_as(alloc: Global, reply: &Reply, encoding: &[u8]) -> Option<bool>
     requires { length (reply_encoding reply.now) ≤ MAX_FRAME_CONTENT }
 {
@@ -382,7 +383,7 @@ fn is_pushed_as(alloc: Global, reply: &Reply, encoding: &[u8]) -> Option<bool>
     Some(out.as_slice() == encoding)
 }
 
-// Whether this is how a reply is encoded in a frame.
+// Returns true if this is the encoding of a reply in a frame.
 fn is_framed_as(alloc: Global, reply: &Reply, encoding: &[u8]) -> Option<bool>
     requires { length (reply_encoding reply.now) ≤ MAX_FRAME_CONTENT }
 {
@@ -391,7 +392,7 @@ fn is_framed_as(alloc: Global, reply: &Reply, encoding: &[u8]) -> Option<bool>
     Some(frame.content() == encoding)
 }
 
-// Whether this is how a reply is encoded, into a `Vec` and in a frame.
+// Flags: this is the encoding of a reply, in a `Vec` and in a frame.
 type Encoded = Option<[Option<bool>; 2]>;
 
 const ENCODED: Encoded = Some([Some(true); 2]);
@@ -414,7 +415,7 @@ fn is_encoded_in_words(alloc: Global, reply: &Reply, numbers: &[u32]) -> Encoded
     encoded
 }
 
-// Each reply has a function of its own: that it fits in a frame is proved there.
+// Each reply has its own function, in which it is proved that the reply fits in a frame.
 
 #[tactic(auto, unfolding(ipc_model::specs::encodings::PlainCalls::reply_encoding))]
 fn encodes_refusal(alloc: Global) -> Encoded {
@@ -580,12 +581,12 @@ fn rows_as_bytes(rt: HostRuntime) {
     same(&rt, seen, [ENCODED; 3]);
 }
 
-// The reply to a call of a record, if this is its encoding.
+// Decodes the reply to a call of a record.
 fn reply_of_record(alloc: Global, call: &Call, encoding: &[u8]) -> Option<Option<Reply>> {
     read_recorded_reply(alloc, call, encoding).ok()
 }
 
-// The name that was allocated.
+// Returns the name that was allocated.
 fn allocated_name(reply: &Option<Reply>) -> Option<u32> {
     match reply {
         Some(Reply::Plain(PlainReply::Allocate { name })) => Some(*name),
@@ -593,7 +594,7 @@ fn allocated_name(reply: &Option<Reply>) -> Option<u32> {
     }
 }
 
-// The name of an allocation's reply.
+// Returns the name in an allocation's reply.
 fn name_of_record(alloc: Global, encoding: &[u8]) -> Option<u32> {
     let reply = reply_of_record(
         alloc,
@@ -611,7 +612,7 @@ fn an_allocation_of_a_record(rt: HostRuntime) {
     same(&rt, name_of_record(rt.alloc(), encoding), Some(0x100));
 }
 
-// Whether a record of the line's call has the reply with this encoding.
+// Returns true if a record of the line's call may have the reply with this encoding.
 fn is_recorded(alloc: Global, line: &str, encoding: &[u8]) -> Option<bool> {
     let call = call_of_line(alloc, line)?;
     let reply = reply_of_record(alloc, &call, encoding);
@@ -619,7 +620,7 @@ fn is_recorded(alloc: Global, line: &str, encoding: &[u8]) -> Option<bool> {
     Some(is_there(reply?))
 }
 
-// The same for an encoding that consists of these numbers.
+// Returns the same for an encoding that consists of these numbers.
 fn is_recorded_in_words(alloc: Global, line: &str, numbers: &[u32]) -> Option<bool> {
     let encoding = encoding_of(alloc, numbers)?;
     let recorded = is_recorded(alloc, line, &encoding);
@@ -647,7 +648,7 @@ fn replies_of_records(rt: HostRuntime) {
     }
 }
 
-// The encoding of a reply to `mach_msg`: code, size and member, and a message of `length` bytes.
+// Returns the encoding of a reply to `mach_msg`: code, size and member, and a message of `length` bytes.
 fn message_reply(alloc: Global, results: &[u32; 3], length: usize) -> Option<Vec<u8>> {
     let [code, size, member] = *results;
     let mut encoding = encoding_of(alloc, &[19, code, size, member])?;
@@ -655,7 +656,7 @@ fn message_reply(alloc: Global, results: &[u32; 3], length: usize) -> Option<Vec
     Some(encoding)
 }
 
-// Whether a record of the line's call has the reply with these results and a message of `length` bytes.
+// Returns true if a record of the line's call may have the reply with these results and a message of `length` bytes.
 fn brings(alloc: Global, line: &str, results: &[u32; 3], length: usize) -> Option<bool> {
     let encoding = message_reply(alloc, results, length)?;
     let recorded = is_recorded(alloc, line, &encoding);
@@ -663,8 +664,8 @@ fn brings(alloc: Global, line: &str, results: &[u32; 3], length: usize) -> Optio
     recorded
 }
 
-// A receive's line, the code, size and member of a reply, how long its message is, and whether a record has it in this
-// form.
+// A receive's line; the code, size and member of a reply; the length of its message; and true if a record may have it
+// in this form.
 type MessageRow = (&'static str, [u32; 3], usize, bool);
 
 fn compare(rt: &impl Abort, alloc: Global, rows: &[MessageRow]) {
@@ -694,7 +695,7 @@ fn received_messages_of_records(rt: HostRuntime) {
     compare(&rt, rt.alloc(), &RECEIVED);
 }
 
-// A receive that destroys a message that is too large changes the state. It doesn't return what it destroys.
+// A receive that destroys a message that is too large changes the state. It doesn't return the message.
 static DESTROYED: [MessageRow; 12] = [
     ("receive 0x100 limit 28", [0x1000_4004, 32, 0x100], 0, true),
     (

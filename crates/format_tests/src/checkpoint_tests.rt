@@ -7,7 +7,7 @@ use image::read;
 use journal::{roll_close, roll_head, roll_open};
 use std::alloc::Global;
 
-/// What comes before the encoding of one port in the image of epoch 1.
+/// The bytes before the encoding of one port in the image of epoch 1.
 static HEADER: [u8; 24] = [
     0x5a, 2, 0, 0, 0, 0, 0, 0, 1, 0, 0, 0, 0, 0, 0, 0, 98, 0, 0, 0, 0, 0, 0, 0,
 ];
@@ -15,12 +15,12 @@ static HEADER: [u8; 24] = [
 /// The segment of epoch 1 without batches.
 static SEGMENT: [u8; 17] = [0x5a, 2, 0, 0, 0, 0, 0, 0, 1, 0, 0, 0, 0, 0, 0, 0, 0];
 
-/// An image and a segment of epoch 3, of version 1, that stood in the slots before.
+/// An image and a segment of epoch 3, of version 1, that were in the slots before.
 static FORMER: [u8; 30] = [
     0x5a, 1, 0, 0, 0, 0, 0, 0, 3, 0, 0, 0, 0, 0, 0, 0, 6, 0, 0, 0, 0, 0, 0, 0, 1, 2, 3, 4, 5, 6,
 ];
 
-/// What a crash leaves of what isn't synced.
+/// The contents that a crash leaves of unsynced writes.
 static OUTCOMES: [Torn; 6] = [
     Torn::Old,
     Torn::New,
@@ -30,18 +30,18 @@ static OUTCOMES: [Torn; 6] = [
     Torn::Fill(0xff),
 ];
 
-/// How many calls of the device a segment and an image of one piece take.
+/// Number of device calls for a segment and an image of one piece.
 const CALLS: u64 = 18;
 
-/// A disk that crashes as planned. No method has a clause, so that a test's proof carries nothing of one.
+/// A disk that crashes as planned. Its methods have no contracts, so that a test's proof carries nothing of them.
 trait Store: Disk {
-    /// A disk whose slots of odd epochs hold what stood there before, and whose calls fail from this one on.
+    /// Creates a disk whose slots of odd epochs have their former contents, and whose calls fail from this one on.
     fn former(alloc: Global, stop_at: u64, torn: Torn) -> Option<Self>;
 
-    /// What a crash leaves.
+    /// Returns the disk after a crash.
     fn stop(self) -> Option<Self>;
 
-    /// The bytes of a slot.
+    /// Returns the bytes of a slot.
     fn bytes(&self, slot: Slot) -> &[u8];
 }
 
@@ -61,7 +61,7 @@ impl Store for MemDisk {
     }
 }
 
-/// The image of epoch 1 that has the encoding of one port.
+/// Returns the image of epoch 1 with the encoding of one port.
 fn image_of_one_port(alloc: Global) -> Option<Image> {
     let snapshot = read(alloc, StoreVersion::Two, &ONE_PORT).ok()?;
     let image = Image::of(alloc, 1, &snapshot);
@@ -69,7 +69,7 @@ fn image_of_one_port(alloc: Global) -> Option<Image> {
     image.ok()
 }
 
-/// Makes the segment of epoch 1.
+/// Creates the segment of epoch 1.
 fn roll<D: Disk>(disk: &mut D) -> Result<(), DiskFault> {
     roll_close(disk, 1)?;
     roll_head(disk, 1)?;
@@ -77,20 +77,20 @@ fn roll<D: Disk>(disk: &mut D) -> Result<(), DiskFault> {
     Ok(())
 }
 
-/// Makes the segment of epoch 1, and then its image.
+/// Creates the segment of epoch 1, then its image.
 fn make<D: Disk>(image: &Image, disk: &mut D) -> Result<(), DiskFault> {
     roll(disk)?;
     image.write(disk)
 }
 
-/// The whole image of epoch 1.
+/// Returns the whole image of epoch 1.
 fn whole_image(alloc: Global) -> Option<Vec<u8>> {
     let mut whole = Vec::from_slice(alloc, &HEADER).ok()?;
     whole.extend_from_slice(&ONE_PORT).ok()?;
     Some(whole)
 }
 
-/// Whether a slot isn't open, is as it was, or holds all that was made.
+/// Returns true if a slot isn't open, is unchanged, or holds the whole new contents.
 fn is_left(slot: &[u8], header: usize, whole: &[u8]) -> bool {
     if slot.len() < header {
         return true;
@@ -101,7 +101,8 @@ fn is_left(slot: &[u8], header: usize, whole: &[u8]) -> bool {
     slot == FORMER.as_slice() || slot == whole
 }
 
-/// Whether a crash at this device call makes it fail, and leaves each slot not open, as it was, or whole.
+/// Returns true if the operation fails due to a crash at this device call, and each slot isn't open, is unchanged, or
+/// is whole.
 fn stopped_well<S: Store + Drop>(
     alloc: Global,
     image: &Image,
@@ -116,7 +117,7 @@ fn stopped_well<S: Store + Drop>(
     Some(failed && segment && is_left(left.bytes(Slot::Image1), 24, whole))
 }
 
-/// The first crash that doesn't, by its call and by what it leaves of what isn't synced.
+/// Returns the first crash for which that is false, by its call and by its effect on unsynced writes.
 fn stopped_badly<S: Store + Drop>(
     alloc: Global,
     image: &Image,
@@ -132,7 +133,7 @@ fn stopped_badly<S: Store + Drop>(
     None
 }
 
-/// Whether a segment and an image are made on a disk, and each has its bytes.
+/// Returns three flags: a segment and an image are created on a disk, and each has its bytes.
 fn made<S: Store + Drop>(alloc: Global, image: &Image, whole: &[u8]) -> Option<[bool; 3]> {
     let mut disk = S::former(alloc, CALLS + 1, Torn::Old)?;
     Some([

@@ -1,4 +1,4 @@
-//! The client's ends: what it reports of its words and its socket, and what goes to the peer and comes from it.
+//! The two ends of the client: its error messages about arguments and socket, and the frames to and from the peer.
 use crate::expect::{same, same_in_row};
 use relay::run_client;
 use std::alloc::Global;
@@ -32,7 +32,7 @@ impl Net for OneSocket {
     }
 }
 
-/// What a run of the client produced.
+/// The outcome of a run of the client.
 #[derive(Drop)]
 struct Ended {
     status: u8,
@@ -40,14 +40,14 @@ struct Ended {
     errors: Vec<u8>,
 }
 
-/// Whether a run ended with this status, and wrote this to each of the two.
+/// Returns true if a run ended with this status, this output and these errors.
 fn has_ended(ended: &Ended, status: u8, output: &[u8], errors: &str) -> bool {
     ended.status == status
         && ended.output.as_slice() == output
         && ended.errors.as_slice() == errors.as_bytes()
 }
 
-/// Words of a command line.
+/// Returns the arguments of a command line.
 fn words_of(alloc: Global, encodings: &[&str]) -> Option<Vec<String>> {
     let mut words = Vec::new(alloc);
     for encoding in encodings {
@@ -56,7 +56,7 @@ fn words_of(alloc: Global, encodings: &[&str]) -> Option<Vec<String>> {
     Some(words)
 }
 
-/// Runs the client on these words and these bytes of input.
+/// Runs the client with these arguments and these bytes of input.
 fn run(alloc: Global, net: &OneSocket, encodings: &[&str], bytes: &[u8]) -> Option<Ended> {
     let words = words_of(alloc, encodings)?;
     let mut input = bytes;
@@ -78,7 +78,7 @@ fn run(alloc: Global, net: &OneSocket, encodings: &[&str], bytes: &[u8]) -> Opti
     })
 }
 
-/// Whether a run without a socket ends with this status and this line of errors.
+/// Returns true if a run without a socket ends with this status and this error message.
 fn is_reported(alloc: Global, encodings: &[&str], status: u8, line: &str) -> Option<bool> {
     let ended = run(
         alloc,
@@ -106,19 +106,19 @@ fn a_wrong_line_or_no_socket_is_reported(rt: HostRuntime) {
     }
 }
 
-/// Runs the client on a socket, whose end it closes afterwards.
+/// Runs the client on a socket, and closes the client's end afterwards.
 fn run_on(alloc: Global, stream: UnixStream, input: &[u8]) -> Option<Ended> {
     run(alloc, &OneSocket(Some(stream)), &["/a"], input)
 }
 
-/// What a peer is sent until the client's end is closed.
+/// Returns the bytes that a peer is sent until the client's end is closed.
 fn sent_to(alloc: Global, mut peer: &UnixStream) -> Option<Vec<u8>> {
     let mut requests = Vec::new(alloc);
     peer.read_to_end(&mut requests).ok()?;
     Some(requests)
 }
 
-/// Runs the client on a peer that has sent these bytes, and returns what the peer was sent.
+/// Runs the client on a peer that has sent these bytes. Returns the outcome and the bytes that the peer was sent.
 fn with_peer(rt: &HostRuntime, input: &[u8], replies: &[u8]) -> Option<(Ended, Vec<u8>)> {
     let (peer, stream) = UnixStream::pair(rt).ok()?;
     let mut writer = &peer;
@@ -127,8 +127,8 @@ fn with_peer(rt: &HostRuntime, input: &[u8], replies: &[u8]) -> Option<(Ended, V
     Some((ended, sent_to(rt.alloc(), &peer)?))
 }
 
-/// Whether such a run ends with this status, all that the peer has sent and this line of errors, and the peer was sent
-/// this.
+/// Returns true if such a run ends with this status, with all that the peer has sent and with this error message, and
+/// the peer was sent these bytes.
 fn is_relayed(
     rt: &HostRuntime,
     input: &[u8],

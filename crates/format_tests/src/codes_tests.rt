@@ -26,7 +26,7 @@ static OPTIONS: [(MessageOptions, &str); 5] = [
     (MessageOptions::LARGE, "large"),
 ];
 
-// Numbers that are on the wire, against the definitions that the clauses cite.
+// Numbers on the wire, compared with the definitions that contracts cite.
 #[test]
 fn numbers_on_the_wire(rt: HostRuntime) {
     for (code, number) in &CODES {

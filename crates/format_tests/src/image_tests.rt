@@ -28,8 +28,8 @@ static ONE_PORT_OF_ONE: [u8; 94] = [
     0, 0, 0, 0, 0, 0, 0, 0, 0, 0, 0, 0, 0, 0, 0, 0, 0, 0, 0, 0, 0, 0, 0, 0, 0, 0, 0, 0, 0, 0,
 ];
 
-/// Every kind of entry, in two spaces; a port that is in a set, with a request and a message that carries the receive
-/// right of another and a send-once right to it for the reply; and that other port, with a request.
+/// Every kind of entry, in two spaces; a port in a set, with a request and a message that carries the receive right of
+/// another port and a send-once right to it as the reply right; and that other port, with a request.
 static EVERY_KIND: [u8; 231] = [
     3, 0, 0, 0, 0, 0, 0, 0, 2, 0, 0, 0, 1, 0, 0, 0, 0, 0, 0, 0, 4, 0, 0, 0, 0, 1, 0, 0, 1, 1, 0, 0,
     0, 0, 0, 0, 0, 1, 2, 0, 0, 0, 2, 0, 0, 0, 0, 0, 0, 0, 1, 1, 0, 0, 2, 1, 0, 0, 0, 0, 0, 0, 0, 0,
@@ -53,11 +53,11 @@ static EVERY_KIND_OF_ONE: [u8; 223] = [
     0, 0,
 ];
 
-/// A byte of `EVERY_KIND` that is replaced: its place, and the new byte. What it encodes then is no image, in order:
-/// spaces that don't ascend; the number of a request, thrice; names that don't ascend; no kind of entry; no flag; a
-/// message by a receive right; a port where there is no reply; no kind of right; nothing that stands in a port's place;
-/// a dead port with a serial; a size below a header's; a body beyond the message; no flag; ports that don't ascend; a
-/// message that is missing.
+/// A byte of `EVERY_KIND` that is replaced: its offset and the new byte. The result is no image, because, in order:
+/// spaces don't ascend; the number of a request is invalid, three times; names don't ascend; a kind of entry is
+/// invalid; a flag is invalid; a message was sent by a receive right; there is a port without a reply right; a kind of
+/// right is invalid; a kind of port is invalid; a dead port has a serial; a size is below a header's; a body extends
+/// beyond the message; a flag is invalid; ports don't ascend; a message is missing.
 static OTHERWISE: [(usize, u8); 17] = [
     (12, 8),
     (16, 1),
@@ -78,7 +78,7 @@ static OTHERWISE: [(usize, u8); 17] = [
     (227, 1),
 ];
 
-/// An encoding of a version that is read, and written again in the current one.
+/// Decodes an encoding of a version, and encodes it in the current version.
 fn again(alloc: Global, version: StoreVersion, encoding: &[u8]) -> Result<Vec<u8>, ImageFault> {
     let snapshot = read(alloc, version, encoding)?;
     let mut out = Vec::new(alloc);
@@ -86,7 +86,7 @@ fn again(alloc: Global, version: StoreVersion, encoding: &[u8]) -> Result<Vec<u8
     Ok(out)
 }
 
-/// Whether an encoding of a version is read, and written again in these bytes.
+/// Returns true if an encoding of a version is decoded, and encoded again as these bytes.
 fn is_written(alloc: Global, version: StoreVersion, encoding: &[u8], bytes: &[u8]) -> bool {
     match again(alloc, version, encoding) {
         Ok(out) => out.as_slice() == bytes,
@@ -94,7 +94,7 @@ fn is_written(alloc: Global, version: StoreVersion, encoding: &[u8], bytes: &[u8
     }
 }
 
-/// Whether bytes are no image of a version.
+/// Returns true if the bytes are no image of this version.
 fn is_none_of(alloc: Global, version: StoreVersion, encoding: &[u8]) -> bool {
     match again(alloc, version, encoding) {
         Ok(_) => false,
@@ -106,7 +106,7 @@ fn is_none(alloc: Global, encoding: &[u8]) -> bool {
     is_none_of(alloc, StoreVersion::Two, encoding)
 }
 
-/// Whether `EVERY_KIND` is no image after one byte is replaced.
+/// Returns true if `EVERY_KIND` is no image after one byte is replaced.
 fn is_none_changed(alloc: Global, place: usize, byte: u8) -> Option<bool> {
     let mut encoding = Vec::from_slice(alloc, &EVERY_KIND).ok()?;
     if let Some(at) = encoding.as_mut_slice().get_mut(place) {
@@ -115,8 +115,8 @@ fn is_none_changed(alloc: Global, place: usize, byte: u8) -> Option<bool> {
     Some(is_none(alloc, &encoding))
 }
 
-/// Where the body of its message is cut off, the size that the message then has, and whether it is still an image: a
-/// size is a multiple of 4.
+/// The offset at which the body of its message is cut off, the size that the message then has, and true if it is still
+/// an image: a size must be a multiple of 4.
 static BODIES: [(usize, u8, bool); 5] = [
     (179, 24, true),
     (181, 26, false),
@@ -125,7 +125,7 @@ static BODIES: [(usize, u8, bool); 5] = [
     (187, 32, true),
 ];
 
-/// `EVERY_KIND` with its message's body cut off, and this size.
+/// Returns `EVERY_KIND` with its message's body cut off, and this size.
 fn with_body(alloc: Global, end: usize, size: u8) -> Option<Vec<u8>> {
     if end > 187 {
         return None;
@@ -138,21 +138,21 @@ fn with_body(alloc: Global, end: usize, size: u8) -> Option<Vec<u8>> {
     Some(encoding)
 }
 
-/// Whether it is an image then, and whether it is none.
+/// Returns two flags: it is an image then, and it is none.
 fn seen_with_body(alloc: Global, end: usize, size: u8) -> Option<(bool, bool)> {
     let encoding = with_body(alloc, end, size)?;
     let is_kept = is_written(alloc, StoreVersion::Two, &encoding, &encoding);
     Some((is_kept, is_none(alloc, &encoding)))
 }
 
-/// Whether it is no image with one more byte.
+/// Returns true if it is no image with one more byte.
 fn is_none_longer(alloc: Global) -> Option<bool> {
     let mut encoding = Vec::from_slice(alloc, &EVERY_KIND).ok()?;
     encoding.push(0).ok()?;
     Some(is_none(alloc, &encoding))
 }
 
-/// How many of an encoding's prefixes are no images.
+/// Returns the number of an encoding's prefixes that aren't images.
 fn refused_beginnings(alloc: Global, version: StoreVersion, encoding: &[u8]) -> usize {
     let mut count = 0usize;
     for length in 0..encoding.len() {
@@ -163,8 +163,8 @@ fn refused_beginnings(alloc: Global, version: StoreVersion, encoding: &[u8]) -> 
     count
 }
 
-/// Whether the encodings of a state in version 1 and in version 2 are both read and written in version 2, whether each
-/// is no image of the other version, and how many of their prefixes are none.
+/// Checks the encodings of a state in both versions. Returns flags: both are decoded and then encoded in version 2, and
+/// neither is an image of the other version; and the numbers of their prefixes that aren't images.
 fn seen(alloc: Global, one: &[u8], two: &[u8]) -> ([bool; 4], [usize; 2]) {
     (
         [

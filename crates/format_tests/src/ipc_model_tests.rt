@@ -3,7 +3,7 @@ use codes::{KernReturn, MACH_MSG};
 use ipc_model::{Call, PlainCall, PlainReply, Reply, RightKind, Sequence};
 use std::alloc::Global;
 
-/// Whether a sequence of these items lends them, and gives them back.
+/// Returns two flags: a sequence of these items lends them, and returns them.
 fn given_back(alloc: Global, items: &[u32]) -> Option<[bool; 2]> {
     let sequence = Sequence::new(Vec::from_slice(alloc, items).ok()?);
     let lends = sequence.as_slice() == items;
@@ -51,7 +51,7 @@ fn what_changed_the_state_has_a_record(rt: HostRuntime) {
     same(&rt, call.has_record(&full), false);
 }
 
-/// Whether a reply is a refusal, whether it has the results of a message of size 0 by no port, and whether it is a
+/// Returns three flags: a reply is a refusal; it has the results of a message of size 0 without a port; it is a
 /// success.
 fn seen_of(reply: Reply) -> [bool; 3] {
     let seen = [

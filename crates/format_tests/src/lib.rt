@@ -1,6 +1,6 @@
 //! Tests of the formats: words, codes, frames, calls, messages and records; images and their encodings, new segments
-//! and images in their slots, and what an inspector prints; and of the relay of frames between streams that are cut
-//! off, that end and that fail.
+//! and images in their slots, and the output of inspectors; and tests of the relay with streams that are cut off, that
+//! end and that fail.
 #![tactic(auto)]
 
 #[cfg(test)]

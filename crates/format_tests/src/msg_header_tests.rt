@@ -8,7 +8,7 @@ use std::alloc::Global;
 const MESSAGE: &[u8; 24] =
     b"\x13\x15\x00\x80\x18\x00\x00\x00\x02\x01\x00\x00\x03\x01\x00\x00\x07\x00\x00\x00\x64\x08\x00\x00";
 
-/// What its header says.
+/// The header that it contains.
 const HEADER: Header = Header {
     size: 24,
     remote_disposition: 19,
@@ -25,7 +25,7 @@ fn headers_are_read(rt: HostRuntime) {
     same(&rt, parse(&MESSAGE[..23]), Err(KernReturn::SendMsgTooSmall));
 }
 
-/// What is written of it, with sequence number 7.
+/// Returns the encoding of the header with sequence number 7.
 fn written(alloc: Global) -> Option<Vec<u8>> {
     let mut out = Vec::new(alloc);
     HEADER.write_into(7, &mut out).ok()?;

@@ -7,12 +7,12 @@ use std::io;
 use std::io::{BufWriter, ErrorKind, Read, Write};
 use wire::WireFault;
 
-/// A peer that answers each frame by the same frame, as far as it was sent.
+/// A peer that replies to each frame with the same frame, as far as it was sent.
 #[derive(Drop)]
 pub(crate) struct Echo {
     sent: RefCell<Vec<u8>>,
     heard: Cell<usize>,
-    /// How many bytes it sends back before it ends.
+    /// Number of bytes that it sends back before it ends.
     room: usize,
 }
 
@@ -25,7 +25,7 @@ impl Echo {
         }
     }
 
-    /// How many bytes the peer was sent.
+    /// Returns the number of bytes that the peer was sent.
     pub(crate) fn sent(&self) -> usize {
         match self.sent.try_borrow() {
             Ok(sent) => sent.len(),
@@ -34,7 +34,7 @@ impl Echo {
     }
 }
 
-/// What the peer sends back, one byte per read.
+/// The stream from the peer, one byte per read.
 #[derive(Drop)]
 struct Back<'a>(&'a Echo);
 
@@ -56,7 +56,7 @@ impl<'a> Read for Back<'a> {
     }
 }
 
-/// What the peer is sent, one byte per write.
+/// The stream to the peer, one byte per write.
 #[derive(Drop)]
 struct Forth<'a>(&'a Echo);
 
@@ -74,7 +74,7 @@ impl<'a> Write for Forth<'a> {
     }
 }
 
-/// Takes one byte per write, up to some number of bytes, and fails from then on.
+/// A writer that accepts one byte per write, up to some number of bytes, and then fails.
 #[derive(Drop)]
 struct Filling {
     output: Vec<u8>,
@@ -98,7 +98,7 @@ impl Write for Filling {
     }
 }
 
-/// What a relay returned, and what was written to its output.
+/// The result of a relay, and its output.
 #[derive(Drop)]
 pub(crate) struct Relayed {
     pub(crate) end: Result<(), WireFault>,

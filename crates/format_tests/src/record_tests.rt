@@ -36,7 +36,7 @@ fn record_bytes(alloc: Global, number: u64, record: &Record) -> Option<Vec<u8>>
     Some(out)
 }
 
-// Writes a record with nothing after it.
+// Returns the bytes of a record, or `None` if there are bytes after it.
 fn written_alone(alloc: Global, number: u64, record: &Record, rest: &[u8]) -> Option<Vec<u8>>
     requires call { length (call_encoding «record».now.call) < 2 ^ 32 }
     requires reply { length (reply_encoding «record».now.reply) < 2 ^ 32 }
@@ -48,7 +48,7 @@ fn written_alone(alloc: Global, number: u64, record: &Record, rest: &[u8]) -> Op
     record_bytes(alloc, number, record)
 }
 
-// Reads the record that these bytes are, and writes it again.
+// Reads the record in these bytes, and writes it again.
 fn read_and_written(alloc: Global, encoding: &[u8]) -> Option<Vec<u8>> {
     let (number, record, rest) = take_record(alloc, encoding).ok()??;
     let written = written_alone(alloc, number, &record, rest);
@@ -92,7 +92,7 @@ fn receive_bytes(alloc: Global) -> Option<Vec<u8>> {
     written
 }
 
-// The record holds a send without what it ignores: unused bits, a size and a sequence number.
+// Returns the bytes of a send with unused bits, a size and a sequence number, which its record leaves out.
 #[tactic(auto, unfolding(ipc_model::specs::encodings::PlainCalls::call_encoding, ipc_model::specs::encodings::PlainCalls::reply_encoding))]
 fn raw_send_bytes(alloc: Global) -> Option<Vec<u8>> {
     let sent = b"\x13\0\xff\x7f\xff\xff\xff\xff\0\x01\0\0\0\0\0\0\xff\xff\xff\xff\
@@ -121,7 +121,7 @@ fn put_byte(encoding: &mut [u8], at: usize, byte: u8) -> Option<()> {
     Some(())
 }
 
-// Whether an encoding with one byte replaced is a record.
+// Returns true if an encoding with one byte replaced is a record.
 fn is_record_once_corrupted(alloc: Global, encoding: &[u8], at: usize, byte: u8) -> Option<bool> {
     let mut corrupted = Vec::from_slice(alloc, encoding).ok()?;
     let put = put_byte(&mut corrupted, at, byte);
@@ -130,8 +130,8 @@ fn is_record_once_corrupted(alloc: Global, encoding: &[u8], at: usize, byte: u8)
     put.and(found)
 }
 
-// The reply is one to another call; the message isn't as it is kept; a send returns something; a receive has another
-// size, its message is above its limit, or there is no port by which it could have come.
+// The reply is to another call; the message isn't canonical; a send returns results; a receive has another size, a
+// message above its limit, or no port from which the message could have come.
 static CORRUPTED: [(&'static [u8], usize, u8); 8] = [
     (&ALLOCATION, 28, 4),
     (&SEND, 38, 1),

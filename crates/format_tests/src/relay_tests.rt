@@ -6,7 +6,7 @@ use wire::WireFault;
 /// Two frames, of five and of four bytes.
 const FRAMES: [u8; 17] = [5, 0, 0, 0, 1, 2, 3, 4, 5, 4, 0, 0, 0, 6, 7, 8, 9];
 
-/// How it ended, what the peer was sent, and how many first bytes of the input were written to the output.
+/// The result, the bytes that the peer was sent, and the number of bytes of the input that were written to the output.
 type Reported = (Result<(), WireFault>, usize, Option<usize>);
 
 fn reported(relayed: &Relayed, peer: &Echo, input: &[u8]) -> Reported {

@@ -1,4 +1,4 @@
-//! A state in rows: two ports, one of which carries the receive right of the other.
+//! A state as rows: two ports, one of which carries the receive right of the other.
 
 use ipc_model::{
     CarriedRight, Entry, Message, PortInMessage, PortRights, PortState, RightKind, Sequence,
@@ -44,7 +44,7 @@ fn spaces(alloc: Global) -> Option<Sequence<Space>> {
     Some(Sequence::new(Vec::from_array(alloc, [space]).ok()?))
 }
 
-/// A message with the receive right of port 2, and a send right of port 1 and one of a dead port.
+/// Returns a message with the receive right of port 2, a send right to port 1 and one to a dead port.
 fn message(alloc: Global) -> Option<Message> {
     let rights = [
         CarriedRight {

@@ -5,7 +5,7 @@ use script::{Exchange, Expected, Line, LineFault, read_line, read_request_line, 
 use script_printing::{push_call, push_exchange, push_reply};
 use std::alloc::{AllocError, Global};
 
-// Whether an exchange is printed as this line.
+// Returns true if an exchange is printed as this line.
 fn is_printed_as(alloc: Global, exchange: &Exchange, line: &[u8]) -> Option<bool> {
     let mut printed = Vec::new(alloc);
     push_exchange(&mut printed, exchange).ok()?;
@@ -16,7 +16,7 @@ fn exchange_of(alloc: Global, line: &[u8]) -> Result<Option<Exchange>, LineFault
     read_line(alloc, line)
 }
 
-// Whether a line is read as an exchange that is printed as the line again.
+// Returns true if a line is read as an exchange that is printed as the same line.
 fn is_read_as_printed(alloc: Global, line: &[u8]) -> Option<bool> {
     let read = exchange_of(alloc, line).ok()??;
     let printed = is_printed_as(alloc, &read, line);
@@ -24,7 +24,7 @@ fn is_read_as_printed(alloc: Global, line: &[u8]) -> Option<bool> {
     printed
 }
 
-// Whether there is an exchange that is printed as this line, and the line is read and printed again.
+// Returns two flags: there is an exchange that is printed as this line; the line is read and printed again.
 fn both_ways(alloc: Global, exchange: Option<Exchange>, line: &[u8]) -> Option<[Option<bool>; 2]> {
     let exchange = exchange?;
     let printed = is_printed_as(alloc, &exchange, line);
@@ -106,7 +106,7 @@ fn exchanges_as_lines(rt: HostRuntime) {
     }
 }
 
-// Where a line, or the line of just a call, is no line, and what was expected there.
+// Returns the place where a line, or the line of a call alone, can't be read, and what was expected there.
 fn unreadable<T: Drop>(read: Result<T, LineFault>) -> Option<(usize, Expected)> {
     match read.err()? {
         LineFault::Unreadable { column, expected } => Some((column, expected)),
@@ -118,7 +118,7 @@ fn fault_of_call(alloc: Global, line: &str) -> Option<(usize, Expected)> {
     unreadable(read_request_line(alloc, line.as_bytes()))
 }
 
-// Whether a line has no exchange.
+// Returns true if a line has no exchange.
 fn is_blank(alloc: Global, line: &[u8]) -> Option<bool> {
     Some(!is_there(exchange_of(alloc, line).ok()?))
 }
@@ -171,7 +171,7 @@ fn number_at(lines: &[Line], index: usize) -> Option<usize> {
     Some(lines.get(index)?.number)
 }
 
-// The numbers of a script's first three lines.
+// Returns the numbers of a script's first three lines.
 fn numbers_of_script(alloc: Global, encoding: &[u8]) -> Option<[Option<usize>; 3]> {
     let lines = read_script(alloc, encoding).ok()?;
     let numbers = [

@@ -1,9 +1,9 @@
-//! A stream that gives little.
+//! A stream that returns one byte at a time.
 
 use std::io;
 use std::io::Read;
 
-/// Gives one byte per read, and fails once `before` reads are over.
+/// Returns one byte per read, and fails after `before` reads.
 #[derive(Drop)]
 pub(crate) struct OneByte<'a> {
     pub(crate) bytes: &'a [u8],

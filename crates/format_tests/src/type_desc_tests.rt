@@ -8,12 +8,12 @@ use type_desc::{
 /// Three ports by `MACH_MSG_TYPE_MAKE_SEND`: 0x101, `MACH_PORT_NULL` and `MACH_PORT_DEAD`.
 const PORTS: &[u8] = b"\x14\x20\x03\x10\x01\x01\x00\x00\x00\x00\x00\x00\xff\xff\xff\xff";
 
-/// The same as a queued message has them.
+/// The same ports in a queued message.
 const STORED_PORTS: &[u8] = b"\x11\x20\x03\x10\x00\x00\x00\x00\x00\x00\x00\x00\x00\x00\x00\x00";
 
-/// Bodies, and how many items they are or what is wrong with them: a long descriptor whose data is missing, one that is
-/// cut off, one with fields in its word, data that is cut off, data out of line, a deallocate bit, the unused bit,
-/// ports of 64 bits, and a fault after an item.
+/// Bodies, and the number of their items or their fault: a long descriptor whose data is missing, one that is cut off,
+/// one with fields in its word, data that is cut off, data out of line, a deallocate bit, the unused bit, ports of 64
+/// bits, and a fault after an item.
 static BODIES: [(&[u8], Result<usize, ItemFault>); 14] = [
     (b"", Ok(0)),
     (PORTS, Ok(1)),
@@ -75,7 +75,7 @@ fn bodies_are_items(rt: HostRuntime) {
     }
 }
 
-/// What the item in front says of its ports, if it has three.
+/// Returns the disposition and the names of the first item's ports, if it has three.
 fn ports_of(body: &[u8]) -> Option<(Option<Disposition>, [u32; 3])> {
     let (item, _) = first_item(body).ok()?;
     if item.port_count() != 3 {
@@ -93,7 +93,7 @@ fn ports_have_names(rt: HostRuntime) {
     same(&rt, ports_of(PORTS), Some(wanted));
 }
 
-/// Whether a body has too many ports.
+/// Returns true if a body has too many ports.
 fn is_too_much(alloc: Global, body: &[u8]) -> Option<bool> {
     let items = items(alloc, body).ok()?;
     let too_many = has_too_many_ports(&items);
@@ -129,7 +129,7 @@ fn places_are_filled(rt: HostRuntime) {
     );
 }
 
-/// A body of one item with 257 ports.
+/// Returns a body of one item with 257 ports.
 fn many_ports(alloc: Global) -> Option<Vec<u8>> {
     let mut body = Vec::from_slice(alloc, &[0x11, 0x20, 1, 0x11]).ok()?;
     body.resize(4 + 4 * 257, 0).ok()?;

@@ -8,7 +8,7 @@ use wire::{Frame, WireFault, read_frame, write_frame};
 // The frame with the number 5 and the argument 1.
 const FRAME: [u8; 12] = [8, 0, 0, 0, 5, 0, 0, 0, 1, 0, 0, 0];
 
-// Takes `room` bytes, and then fails, or takes none if it is `stuck`.
+// A writer that accepts `room` bytes, and then fails, or accepts none if it is `stuck`.
 #[derive(Drop)]
 struct Small {
     room: usize,
@@ -53,7 +53,7 @@ fn frame_from(alloc: Global, input: &mut impl Read) -> Option<Frame> {
     read_frame(alloc, input).ok()?
 }
 
-/// A frame's number and its arguments.
+/// Returns a frame's number and its arguments.
 fn parts_of(frame: &Option<Frame>) -> Option<(u32, &[u8])> {
     let frame = frame.as_ref()?;
     Some((frame.number(), frame.arguments()))
@@ -70,7 +70,7 @@ fn written(alloc: Global, frame: &Option<Frame>) -> Option<Vec<u8>> {
     Some(output)
 }
 
-/// Whether there is no frame if there are no bytes.
+/// Returns true if there is no frame in no bytes.
 fn is_at_end(alloc: Global) -> Option<bool> {
     Some(!is_there(read_frame(alloc, &mut &[][..]).ok()?))
 }
@@ -91,7 +91,7 @@ fn reads_and_writes(rt: HostRuntime) {
     same(&rt, is_at_end(alloc), Some(true));
 }
 
-/// Whether a copy of a frame has this content.
+/// Returns true if a copy of a frame has this content.
 fn is_copied_as(alloc: Global, frame: &Frame, content: &[u8]) -> Option<bool> {
     let copy = Frame::from_content(alloc, frame.content()).ok()?;
     Some(copy.content() == content)
@@ -116,7 +116,7 @@ fn makes_frames(rt: HostRuntime) {
     same(&rt, copied, Some(true));
 }
 
-/// Gives the frame with the number 5 and the argument 1, and fails once `before` reads are over.
+/// Returns a reader of the frame with the number 5 and the argument 1, which fails after `before` reads.
 fn reader(before: usize) -> OneByte<'static> {
     let bytes: &'static [u8] = b"\x08\0\0\0\x05\0\0\0\x01\0\0\0";
     OneByte { bytes, before }
@@ -133,7 +133,7 @@ fn readers_that_give_little(rt: HostRuntime) {
     }
 }
 
-/// The fault of writing a frame into this much room, if there is one, and how much room is left.
+/// The fault of writing a frame into this much room, if there is one, and the room that is left.
 type Writing = (Option<WireFault>, usize);
 
 fn writing(frame: &Option<Frame>, room: usize, stuck: bool) -> Option<Writing> {
@@ -153,7 +153,7 @@ fn writers_that_take_little(rt: HostRuntime) {
     drop(frame);
 }
 
-/// Whether a fault has this name.
+/// Returns true if a fault has this name.
 fn is_named(alloc: Global, fault: WireFault, encoding: &str) -> Option<bool> {
     let name = format!(in alloc; "{fault}").ok()?;
     Some(name.as_str() == encoding)

@@ -1,4 +1,4 @@
--- What the first byte of an entry's encoding says of the entry, and an entry's encoding part by part.
+-- Facts about an entry from the first byte of its encoding, and the encoding of an entry in its parts.
 use Rattle.std.proofs.Common.{◌≡◌, ℕ, ◌<◌, ◌^◌, ◌++◌, [], ◌∷◌, List, Option, Result, Ok, Err, OnOk, length, drop, refl, sym, ◌∙◌, ap, subst, arith, length-append}
 use Rattle.std.specs.declared.alloc.AllocError.{AllocError}
 use Rattle.image.specs.Parts.{added}
@@ -57,7 +57,7 @@ on_ok : {T E P Q : Type 0} (result : Result T E) → (P → Q) → OnOk result P
 on_ok (Ok done) f holds = f holds
 on_ok (Err e) f holds = holds
 
--- the rights to a port, part by part
+-- the rights to a port, appended part by part
 pub rights_added : (result : Result (Unit {0}) AllocError) (entry : Entry) (rights : PortRights)
     (old a b c d end : List ℕ) (byte : ℕ) → entry ≡ Port rights → a ≡ old ++ 1 ∷ [] → b ≡ a ++ long_word rights.port
     → byte ≡ number_of_bool rights.receive → c ≡ b ++ byte ∷ [] → d ≡ c ++ word rights.send
@@ -75,7 +75,7 @@ rights_added result entry rights old a b c d end byte is is_a is_b flag is_c is_
     added a b (long_word rights.port) receives end is_b to_b in
     added old a (1 ∷ []) (long_word rights.port ++ receives) end is_a to_a) ends)
 
--- fewer bytes than a word's begin with none
+-- fewer than four bytes don't begin with a word
 pub no_word : {X : Type 0} (bytes : List ℕ) (n : ℕ) (rest : List ℕ) → length bytes < 4 → bytes ≡ word n ++ rest → X
 no_word bytes n rest few is = absurd (omega (arith, few, ap length is, length-append (word n) rest, length-word n))
 

@@ -18,8 +18,8 @@ use Rattle.snapshot.specs.declared.rows.Space.{Space}
 use Rattle.image.specs.Rows.{Row, rows_of}
 use Rattle.words.specs.Words.{AreBytes}
 
--- a queued message: sent by a send right or a send-once right, of a size that messages may have, with bytes for its
--- body, and its other numbers within their words
+-- a queued message: sent by a send right or a send-once right, of a size that messages may have, with bytes as its
+-- body, and with its other numbers within their words
 pub record FitsMessage (message : Message) : Type 0 where
   pub destination : message.destination ≢ kind.Receive
   pub reply : EncodableReplyRight message.reply
@@ -29,7 +29,7 @@ pub record FitsMessage (message : Message) : Type 0 where
   pub rights : All EncodableRight message.rights
   pub bytes : AreBytes message.body
 
--- what a live port keeps
+-- the state of a live port
 pub record FitsPort (port : PortState) : Type 0 where
   pub limit : port.limit < 2 ^ 32
   pub sequence_number : port.sequence_number < 2 ^ 32
@@ -40,7 +40,7 @@ pub record FitsPort (port : PortState) : Type 0 where
   pub few_messages : length port.messages < 2 ^ 32
   pub messages : All FitsMessage port.messages
 
--- a name with what it stands for
+-- a name with its entry
 abbrev pub FitsNamed : NamedEntry → Type 0
 FitsNamed row = EncodableNamed (row.name, row.entry)
 
@@ -51,17 +51,17 @@ pub record FitsSpace (space : Space) : Type 0 where
   pub names : All FitsNamed space.names
   pub names_ascend : AscendsFrom 0 (map name_of space.names)
 
--- what a space keeps; nothing, in version 1
+-- the kept reply of a space, which must be absent in version 1
 abbrev pub FitsKept : StoreVersion → Option NumberedReply → Type 0
 FitsKept version None = Unit {0}
 FitsKept One (Some kept) = ⊥
 FitsKept Two (Some kept) = IsKeptReply kept
 
--- a space with what it keeps
+-- a space with its kept reply
 abbrev pub FitsRow : StoreVersion → Row → Type 0
 FitsRow version row = FitsSpace row.space × FitsKept version row.kept
 
--- a live port by its serial
+-- a live port with its serial
 abbrev pub FitsLivePort : LivePort → Type 0
 FitsLivePort port = (port.serial < 2 ^ 64) × FitsPort port.state
 

@@ -1,4 +1,4 @@
--- Spaces along with what they keep, as rows.
+-- Spaces and their kept replies as rows.
 use Rattle.std.specs.Prelude.{◌≡◌, ◌⊎◌, ℕ, suc, ◌+◌, ◌^◌, ◌<◌, List, [], ◌∷◌, ◌++◌, length, map, Option, None, Some, IfSome, IsSomeAnd, refl}
 use Rattle.std.proofs.Common.{Bor, ◌∙◌, ap, sym, subst, inl, inr, arith, append_assoc}
 use Rattle.codes.specs.StoreVersion.{current}
@@ -41,7 +41,7 @@ length-rows [] kept = refl
 length-rows (space ∷ spaces) [] = ap suc (length-rows spaces [])
 length-rows (space ∷ spaces) (first ∷ kept) = ap suc (length-rows spaces kept)
 
--- equal rows are of equal spaces, which keep the same
+-- equal rows have equal spaces and equal kept replies
 pub same_rows : (spaces others : List Space) (kept kept_too : List (Option NumberedReply))
     → length kept ≡ length spaces → length kept_too ≡ length others → rows_of spaces kept ≡ rows_of others kept_too
     → (spaces ≡ others) × (kept ≡ kept_too)
@@ -50,7 +50,7 @@ same_rows spaces others kept kept_too long long_too same = (
   sym (kept_back spaces kept long) ∙ ap (map kept_in) same ∙ kept_back others kept_too long_too,
 )
 
--- one more of each is one more row
+-- a space and its kept reply are appended as one row
 pub rows_push : (spaces : List Space) (kept : List (Option NumberedReply)) (space : Space)
     (last : Option NumberedReply) → length kept ≡ length spaces
     → rows_of (spaces ++ space ∷ []) (kept ++ last ∷ [])
@@ -62,11 +62,11 @@ rows_push (one ∷ spaces) (first ∷ kept) space last same =
     ap (λ (l : List Row). record { space = one; kept = first } ∷ l)
     (rows_push spaces kept space last (omega (arith, same)))
 
--- What bytes say that a space keeps: nothing,
+-- The bytes say that a space keeps no reply.
 abbrev pub KeepsNothing : ℕ → Option NumberedReply → List ℕ → List ℕ → Type 0
 KeepsNothing request kept beyond rest = (request ≡ 0) × (kept ≡ None) × (beyond ≡ rest)
 
--- or a reply, whose frame follows its request
+-- The bytes say that a space keeps a reply, whose frame follows its request.
 abbrev pub KeepsReply : ℕ → Option NumberedReply → List ℕ → List ℕ → Type 0
 KeepsReply request kept beyond rest =
     (reply : NumberedReply) × (0 < request) × (kept ≡ Some reply) × (reply.request ≡ request) × IsKeptReply reply
@@ -84,7 +84,7 @@ kept_front (Some reply) request bytes beyond rest fits small is is_too =
     (sym is ∙ is_too ∙ append_assoc (word reply.request) (frame_encoding (numbered_encoding reply)) rest) in
     inr (reply, omega (arith, parts.0, fits.request.0), refl, sym parts.0, fits, parts.1)
 
--- one more space was taken, with what it keeps
+-- one more space was decoded, with its kept reply
 pub one_more_kept : (version : StoreVersion) (whole : List ℕ) (count : ℕ) (spaces : List Space)
     (kept : List (Option NumberedReply)) (longer : List Space) (longer_too : List (Option NumberedReply))
     (left : List ℕ) (space : Space) (last : Option NumberedReply) (beyond : List ℕ) (taken : ℕ) → taken < count
@@ -98,7 +98,7 @@ one_more_kept version whole count spaces kept longer longer_too left space last 
     (rows_of longer longer_too) left (record { space = space; kept = last }) beyond taken fewer
     ((λ i. rows_of (is i) (is_too i)) ∙ rows_push spaces kept space last same) so_far leads
 
--- What the reader of a space answers.
+-- The result of the reader of a space.
 abbrev pub ReadsSpace : StoreVersion → List ℕ → Option (Space × Option NumberedReply × Bor (List ℕ)) → Type 0
 ReadsSpace version bytes found =
     IfSome found (λ r. (bytes ≡ row_encoding_of version (record { space = r.0; kept = r.1 }) ++ r.2.now)

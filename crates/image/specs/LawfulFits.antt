@@ -60,7 +60,7 @@ space_fits state encodes space names there =
           (entries_ascend 0 names (λ k v at. omega arith));
     }
 
--- what a space of a lawful state keeps
+-- the kept reply of a space in a lawful state
 may_keep : (version : StoreVersion) (state : State) (space : ℕ) (kept : Option NumberedReply) → LawfulState state
     → KeepsWhatItMay version state → get state.kept space ≡ kept → FitsKept version kept
 may_keep version state space None lawful keeps is = tt

@@ -1,4 +1,4 @@
--- The encodings in an image by their parts, with what follows them.
+-- The encodings in an image, split into their parts.
 use Rattle.std.specs.Prelude.{◌≡◌, ℕ, ◌^◌, ◌<◌, List, [], ◌∷◌, ◌++◌, length, flat_map, Option, None, Some, IfSome, IsSomeAnd, ◌+◌}
 use Rattle.std.proofs.Common.{sym, ◌∙◌, ap, subst, arith, append_assoc}
 use Rattle.std.proofs.lemmas.List.{append-nil}
@@ -15,7 +15,7 @@ use Rattle.image.specs.Rows.{live_port_encoding, row_encoding_of, rows_of, snaps
 use Rattle.snapshot.specs.declared.rows.Snapshot.{Snapshot}
 use Rattle.words.specs.Words.{word, long_word}
 
--- after a message's head: its rights and its body
+-- the bytes after a message's head: its rights, its body and the rest
 abbrev pub after_head : Message → List ℕ → List ℕ
 after_head message rest =
     word (length message.rights) ++ (flat_map carried_encoding message.rights ++ (message.body ++ rest))
@@ -27,7 +27,7 @@ pub message_apart : (message : Message) (rest : List ℕ) → message_image mess
     ++ (number_of_bool message.complex ∷ after_head message rest))))
 message_apart message rest = simp append_assoc
 
--- after a port's numbers: the targets of its requests, and then its messages
+-- the bytes after the targets of a port's requests: its messages and the rest
 abbrev pub after_targets : PortState → List ℕ → List ℕ
 after_targets port rest = word (length port.messages) ++ (flat_map message_image port.messages ++ rest)
 
@@ -41,7 +41,7 @@ pub port_apart : (port : PortState) (rest : List ℕ) → port_encoding port ++ 
     ++ (word port.make_send_count ++ (word (number_or_0 port.set) ++ after_numbers port rest)))
 port_apart port rest = simp append_assoc
 
--- after a snapshot's spaces: its ports
+-- the bytes after a snapshot's spaces: its ports
 abbrev pub after_spaces : Snapshot → List ℕ
 after_spaces snapshot = word (length snapshot.ipc.ports) ++ (flat_map live_port_encoding snapshot.ipc.ports ++ [])
 
@@ -69,7 +69,7 @@ pub set_fits : (set : Option ℕ) → EncodableSet set → number_or_0 set < 2 ^
 set_fits None fits = omega arith
 set_fits (Some name) fits = fits.1
 
--- what is added to what was added
+-- two byte strings appended one after another
 pub added : (old mid x rest end : List ℕ) → mid ≡ old ++ x → end ≡ mid ++ rest → end ≡ old ++ (x ++ rest)
 added old mid x rest end first then = then ∙ ap (λ (l : List ℕ). l ++ rest) first ∙ append_assoc old x rest
 
@@ -83,7 +83,7 @@ module _ {A : Type 0} where
   pub some_if : (o : Option A) (P : A → Type 0) (x : A) → o ≡ Some x → IfSome o P → P x
   some_if o P x is some = subst (λ (o : Option A). IfSome o P) is some
 
--- a message that was found part by part
+-- a message that was decoded part by part
 pub message_found : (bytes : List ℕ) (message : Message) (size count : ℕ) (beyond counted after rest : List ℕ)
     → bytes ≡ number_of_kind message.destination ∷
     (reply_right_encoding message.reply
@@ -104,7 +104,7 @@ message_found bytes message size count beyond counted after rest is count_is rig
     ++ (word message.id ++ (word (message_size message) ++ (number_of_bool message.complex ∷ l))))) all
     ∙ sym (message_apart message rest)
 
--- a snapshot that was found part by part
+-- a snapshot that was decoded part by part
 pub snapshot_found : (version : StoreVersion) (bytes : List ℕ) (snapshot : Snapshot) (beyond after rest : List ℕ)
     → bytes ≡ long_word snapshot.ipc.next_serial ++ beyond
     → beyond ≡ word (length snapshot.ipc.spaces) ++ (flat_map (row_encoding_of version) (rows_of snapshot.ipc.spaces snapshot.kept) ++ after)
@@ -117,7 +117,7 @@ snapshot_found version bytes snapshot beyond after rest is spaces_are ports_are 
     ended))
     ∙ sym (snapshot_apart version snapshot)
 
--- what follows each of a message's parts
+-- the bytes after each of a message's parts
 abbrev pub after_complex : Message → List ℕ
 after_complex message = word (length message.rights) ++ (flat_map carried_encoding message.rights ++ message.body)
 
@@ -133,7 +133,7 @@ after_reply message = word message.id ++ after_id message
 abbrev pub after_destination : Message → List ℕ
 after_destination message = reply_right_encoding message.reply ++ after_reply message
 
--- what is added part by part to a port's encoding, and to a snapshot's
+-- a port's encoding, and a snapshot's, appended part by part
 pub port_added : (port : PortState) (o a b c d e f g end : List ℕ) → a ≡ o ++ word port.limit
     → b ≡ a ++ word port.sequence_number → c ≡ b ++ word port.make_send_count
     → d ≡ c ++ word (number_or_0 port.set) → e ≡ d ++ long_word (number_or_0 port.no_senders_target)

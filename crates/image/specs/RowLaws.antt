@@ -21,7 +21,7 @@ module _ {A B : Type 0} where
   length-map f [] = refl
   length-map f (x ∷ xs) = ap suc (length-map f xs)
 
-  -- encodings of rows that are made from entries are encodings of the entries
+  -- the encodings of rows that are made from entries are the encodings of the entries
   encodings_of : (f : A → B) (of_row : B → List ℕ) (of_entry : A → List ℕ) → ((x : A) → of_row (f x) ≡ of_entry x)
       → (xs : List A) → flat_map of_row (map f xs) ≡ flat_map of_entry xs
   encodings_of f of_row of_entry same [] = refl

@@ -10,7 +10,7 @@ use Rattle.snapshot.specs.declared.rows.Snapshot.{Snapshot}
 use Rattle.snapshot.specs.declared.rows.Space.{Space}
 use Rattle.words.specs.Words.{word, long_word}
 
--- a name and what it stands for
+-- a name and its entry
 abbrev pub named_encoding : NamedEntry → List ℕ
 named_encoding row = word row.name ++ entry_encoding row.entry
 
@@ -18,7 +18,7 @@ named_encoding row = word row.name ++ entry_encoding row.entry
 abbrev pub names_encoding_of : List NamedEntry → List ℕ
 names_encoding_of names = word (length names) ++ flat_map named_encoding names
 
--- a space with what it keeps
+-- a space with its kept reply
 pub record Row : Type 0 where
   pub space : Space
   pub kept : Option NumberedReply
@@ -27,13 +27,13 @@ abbrev pub row_encoding_of : StoreVersion → Row → List ℕ
 row_encoding_of version row =
     word row.space.number ++ (kept_encoding version row.kept ++ names_encoding_of row.space.names)
 
--- Spaces, each with what stands in its place in the other list; nothing, where that is too short.
+-- Each space with the element at its index in the other list, or with none if that list is too short.
 abbrev pub rows_of : List Space → List (Option NumberedReply) → List Row
 rows_of [] kept = []
 rows_of (space ∷ spaces) [] = record { space = space; kept = None } ∷ rows_of spaces []
 rows_of (space ∷ spaces) (first ∷ kept) = record { space = space; kept = first } ∷ rows_of spaces kept
 
--- a live port: its serial, and what it keeps
+-- a live port: its serial and its state
 abbrev pub live_port_encoding : LivePort → List ℕ
 live_port_encoding port = long_word port.serial ++ port_encoding port.state
 
@@ -45,6 +45,6 @@ snapshot_encoding_of version snapshot =
     ++ (flat_map (row_encoding_of version) (rows_of snapshot.ipc.spaces snapshot.kept)
     ++ (word (length snapshot.ipc.ports) ++ flat_map live_port_encoding snapshot.ipc.ports)))
 
--- and as it is written
+-- the encoding in the current version, which is the one that is written
 abbrev pub snapshot_encoding : Snapshot → List ℕ
 snapshot_encoding = snapshot_encoding_of current

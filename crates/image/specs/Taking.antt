@@ -1,4 +1,4 @@
--- How values are taken from the front of bytes, one after another.
+-- Values that are decoded from the front of bytes, one after another.
 use Rattle.std.specs.Prelude.{◌≡◌, ℕ, ◌+◌, ◌<◌, List, [], ◌∷◌, ◌++◌, length, flat_map, All, Option, None, Some, IfSome, IsSomeAnd, refl}
 use Rattle.std.proofs.Common.{Bor, sym, ◌∙◌, ap, subst, arith, append_assoc, length-append}
 use Rattle.std.proofs.lemmas.Grind.{flat_map-append}
@@ -10,15 +10,15 @@ module _ {A : Type 0} (encoding : A → List ℕ) (fits : A → Type 0) where
   abbrev pub Encodes : List ℕ → ℕ → List A → List ℕ → Type 0
   Encodes bytes count rows end = All fits rows × (length rows ≡ count) × (bytes ≡ flat_map encoding rows ++ end)
 
-  -- Values were taken, and these bytes are left. However the whole encodes this many values, they begin with those that
-  -- were taken, and what is left encodes the others.
+  -- Values were decoded, and these bytes are left. If the whole encodes this many values in any way, the decoded ones
+  -- are the first of them, and the bytes left encode the others.
   pub record Taken (whole : List ℕ) (count : ℕ) (rows : List A) (left : List ℕ) : Type 0 where
     pub joined : whole ≡ flat_map encoding rows ++ left
     pub fit : All fits rows
     pub only : (all : List A) (end : List ℕ) → Encodes whole count all end → (more : List A) × (all ≡ rows ++ more)
         × All fits more × (left ≡ flat_map encoding more ++ end)
 
-  -- The bytes begin with this value, and with no other.
+  -- The bytes begin with this value and no other.
   abbrev pub Leads : List ℕ → A → List ℕ → Type 0
   Leads bytes row beyond =
       (bytes ≡ encoding row ++ beyond) × fits row
@@ -36,7 +36,7 @@ module _ {A : Type 0} (encoding : A → List ℕ) (fits : A → Type 0) where
     only = λ (all : List A) (end : List ℕ) (encodes : _). (all, refl, encodes.0, encodes.2);
   }
 
-  -- some values are left where fewer were taken than there are
+  -- if fewer values were decoded than there are, some are left
   some_left : (rows more all : List A) (count : ℕ) → all ≡ rows ++ more → length all ≡ count → length rows < count
       → more ≡ [] → ⊥
   some_left rows more all count joined long fewer none =
@@ -69,7 +69,7 @@ module _ {A : Type 0} (encoding : A → List ℕ) (fits : A → Type 0) where
         ] was.1 was.2 was.3;
   }
 
-  -- where the bytes that are left begin with no value, the whole doesn't encode this many
+  -- if the bytes left begin with no value, the whole doesn't encode this many
   pub too_few : (whole : List ℕ) (count : ℕ) (rows : List A) (left : List ℕ) → length rows < count
       → Taken whole count rows left → LeadsNone left
       → (all : List A) (end : List ℕ) → Encodes whole count all end → ⊥
@@ -82,7 +82,7 @@ module _ {A : Type 0} (encoding : A → List ℕ) (fits : A → Type 0) where
             (is ∙ append_assoc (encoding value) (flat_map encoding others) end)
       ] was.1 was.2 was.3
 
-  -- all were taken: they are the ones that the whole encodes
+  -- if all values were decoded, they are the ones that the whole encodes
   pub all_taken : (whole : List ℕ) (count : ℕ) (rows : List A) (left : List ℕ) → length rows ≡ count
       → Taken whole count rows left
       → (all : List A) (end : List ℕ) → Encodes whole count all end → (rows ≡ all) × (left ≡ end)
@@ -95,7 +95,7 @@ module _ {A : Type 0} (encoding : A → List ℕ) (fits : A → Type 0) where
             (omega (arith, long, encodes.1, ap length joined, length-append rows (value ∷ others)))
       ] was.1 was.3
 
-  -- What a reader of one value answers.
+  -- The result of the reader of one value.
   abbrev pub Reads : List ℕ → Option (A × Bor (List ℕ)) → Type 0
   Reads bytes found =
       IfSome found (λ r. (bytes ≡ encoding r.0 ++ r.1.now) × fits r.0)
@@ -110,7 +110,7 @@ module _ {A : Type 0} (encoding : A → List ℕ) (fits : A → Type 0) where
       → LeadsNone bytes
   leads_none bytes found is reads = (subst (Reads bytes) is reads).1
 
-  -- What holds while values are taken: this many were.
+  -- The loop invariant of the reader: this many values were decoded.
   abbrev pub TakenSoFar : List ℕ → ℕ → List A → List ℕ → ℕ → Type 0
   TakenSoFar whole count rows left taken = Taken whole count rows left × (length rows ≡ taken)
 
@@ -128,7 +128,7 @@ module _ {A : Type 0} (encoding : A → List ℕ) (fits : A → Type 0) where
         omega (arith, length-append rows (row ∷ []), so_far.1),
       )
 
-  -- what was taken, seen as a row
+  -- the decoded values as seen by a contract
   pub seen_taken : (whole : List ℕ) (count : ℕ) (rows seen : List A) (left : List ℕ) → seen ≡ rows → length rows ≡ count
       → Taken whole count rows left
       → (whole ≡ flat_map encoding seen ++ left) × (length seen ≡ count) × All fits seen

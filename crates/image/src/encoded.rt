@@ -8,15 +8,15 @@ use ipc_model::Sequence;
 use std::alloc::{AllocError, Global};
 use words::push_word;
 
-/// A value that an image encodes by bytes of its own.
+/// A value with its own encoding in an image.
 pub(crate) trait Encoded: Drop {
-    /// Its bytes, in an image of a version.
+    /// The value's encoding in an image of this version.
     ghost encoding: { StoreVersion → Self → List ℕ };
 
-    /// An image can encode it.
+    /// An image can encode the value.
     ghost fits: { Self → Type 0 };
 
-    /// The value that stands in front, and the bytes after it.
+    /// Splits off the value's encoding and decodes it.
     fn take(
         alloc: Global,
         version: StoreVersion,
@@ -27,12 +27,12 @@ pub(crate) trait Encoded: Drop {
         ensures only { (value : Self) (rest : List ℕ) → fits value → bytes.now ≡ encoding version value ++ rest
             → IfOk result (λ found. IsSomeAnd found (λ r. (r.0 ≡ value) × (r.1.now ≡ rest))) };
 
-    /// Adds its bytes, in the current version. If an allocation fails, some of them may have been added.
+    /// Appends the value's encoding in the current version. If an allocation fails, part of it may have been appended.
     fn push(&self, out: &mut Vec<u8>) -> Result<(), AllocError>
         ensures { OnOk result (out.new.items ≡ out.old.items ++ encoding current self.now) };
 }
 
-/// `count` values from the front, and the bytes after them.
+/// Splits off and decodes `count` values.
 pub(crate) fn take_rows<T: Encoded>(
     alloc: Global,
     version: StoreVersion,
@@ -57,8 +57,8 @@ pub(crate) fn take_rows<T: Encoded>(
     Ok(Some((Sequence::new(rows), rest)))
 }
 
-/// Adds a number of rows or bytes. One that doesn't fit its word is of more than any memory holds, so it is refused as
-/// out of memory; then nothing changed.
+/// Appends a number of rows or bytes. A number that doesn't fit its word exceeds any memory, so it counts as out of
+/// memory. In that case nothing changed.
 pub(crate) fn push_length(out: &mut Vec<u8>, length: usize) -> Result<(), AllocError>
     ensures { OnOk result (out.new.items ≡ out.old.items ++ word length) }
 {
@@ -68,7 +68,7 @@ pub(crate) fn push_length(out: &mut Vec<u8>, length: usize) -> Result<(), AllocE
     push_word(out, length)
 }
 
-/// Adds the bytes of values, one after another. If an allocation fails, some of them may have been added.
+/// Appends the encodings of values, one after another. If an allocation fails, part of them may have been appended.
 pub(crate) fn push_rows<T: Encoded>(out: &mut Vec<u8>, rows: &[T]) -> Result<(), AllocError>
     ensures { OnOk result (out.new.items ≡ out.old.items ++ flat_map (T.encoding current) rows.now) }
 {

@@ -17,7 +17,7 @@ use snapshot::NamedEntry;
 use std::alloc::{AllocError, Global};
 use words::{push_long_word, push_word, take_long_word, take_word};
 
-/// The serial that a number encodes; 0 is for none.
+/// Returns the serial that a number encodes, or `None` for 0.
 pub(crate) fn target_of(number: u64) -> Option<u64>
     ensures encoded { number ≡ number_or_0 result }
     ensures fits { EncodableTarget result }
@@ -29,14 +29,14 @@ pub(crate) fn target_of(number: u64) -> Option<u64>
     }
 }
 
-/// Adds a serial, or 0 for none. If an allocation fails, nothing changed.
+/// Appends a serial, or 0 for none. If an allocation fails, nothing changed.
 pub(crate) fn push_target(out: &mut Vec<u8>, target: Option<u64>) -> Result<(), AllocError>
     ensures { OnOk result (out.new.items ≡ out.old.items ++ long_word (number_or_0 target)) }
 {
     push_long_word(out, target.unwrap_or(0))
 }
 
-/// Adds a byte. If an allocation fails, nothing changed.
+/// Appends a byte. If an allocation fails, nothing changed.
 pub(crate) fn push_byte(out: &mut Vec<u8>, byte: u8) -> Result<(), AllocError>
     ensures { OnOk result (out.new.items ≡ out.old.items ++ (byte ∷ [])) }
 {
@@ -44,7 +44,7 @@ pub(crate) fn push_byte(out: &mut Vec<u8>, byte: u8) -> Result<(), AllocError>
     Ok(())
 }
 
-/// The byte that stands in front, and the bytes after it.
+/// Splits off a byte.
 pub(crate) fn take_byte(bytes: &[u8]) -> Option<(u8, &[u8])>
     ensures found { IfSome result (λ r. bytes.now ≡ r.0 ∷ r.1.now) }
     ensures only { (byte : ℕ) (rest : List ℕ) → bytes.now ≡ byte ∷ rest
@@ -54,7 +54,7 @@ pub(crate) fn take_byte(bytes: &[u8]) -> Option<(u8, &[u8])>
     Some((*byte, rest))
 }
 
-/// A flag, and the bytes after it.
+/// Splits off a flag.
 pub(crate) fn take_flag(bytes: &[u8]) -> Option<(bool, &[u8])>
     ensures found { IfSome result (λ r. bytes.now ≡ number_of_bool r.0 ∷ r.1.now) }
     ensures only { (flag : Bool) (rest : List ℕ) → bytes.now ≡ number_of_bool flag ∷ rest
@@ -67,15 +67,15 @@ pub(crate) fn take_flag(bytes: &[u8]) -> Option<(bool, &[u8])>
     }
 }
 
-/// The byte of a flag.
+/// Returns the byte of a flag.
 pub(crate) fn byte_of(flag: bool) -> u8
     ensures { result ≡ number_of_bool flag }
 {
     u8::from(flag)
 }
 
-/// The port, whether its receive right is held, the references of its send right, and the request's target, and the
-/// bytes after them.
+/// Splits off a port, the flag of its receive right, the references of its send right and the target of the name's
+/// request.
 fn take_held(bytes: &[u8]) -> Option<(u64, bool, u32, u64, &[u8])>
     ensures found { IfSome result (λ r. bytes.now ≡ long_word r.0
         ++ (number_of_bool r.1 ∷ (word r.2 ++ (long_word r.3 ++ r.4.now)))) }
@@ -92,7 +92,7 @@ fn take_held(bytes: &[u8]) -> Option<(u64, bool, u32, u64, &[u8])>
     Some((port, receive, send, target, rest))
 }
 
-/// The rights to a port, after the byte that announces them.
+/// Decodes the rights to a port, after the byte that announces them.
 fn take_rights(bytes: &[u8]) -> Option<(Entry, &[u8])>
     ensures found { IfSome result (λ r. (1 ∷ bytes.now ≡ entry_encoding r.0 ++ r.1.now) × EncodableEntry r.0) }
     ensures only { (rights : PortRights) (rest : List ℕ) → EncodableEntry (entry_variants.Port rights)
@@ -109,7 +109,7 @@ fn take_rights(bytes: &[u8]) -> Option<(Entry, &[u8])>
     Some((Entry::Port(rights), rest))
 }
 
-/// Two serials, and the bytes after them.
+/// Splits off two serials.
 pub(crate) fn take_serials(bytes: &[u8]) -> Option<(u64, u64, &[u8])>
     ensures found { IfSome result (λ r. bytes.now ≡ long_word r.0 ++ (long_word r.1 ++ r.2.now)) }
     ensures fits { IfSome result (λ r. (r.0 < 2 ^ 64) × (r.1 < 2 ^ 64)) }
@@ -122,7 +122,7 @@ pub(crate) fn take_serials(bytes: &[u8]) -> Option<(u64, u64, &[u8])>
     Some((first, second, rest))
 }
 
-/// A send-once right, after the byte that announces it.
+/// Decodes a send-once right, after the byte that announces it.
 fn take_send_once(bytes: &[u8]) -> Option<(Entry, &[u8])>
     ensures found { IfSome result (λ r. (2 ∷ bytes.now ≡ entry_encoding r.0 ++ r.1.now) × EncodableEntry r.0) }
     ensures only { (port : ℕ) (target : Option ℕ) (rest : List ℕ) → EncodableEntry (entry_variants.SendOnce port target)
@@ -137,7 +137,7 @@ fn take_send_once(bytes: &[u8]) -> Option<(Entry, &[u8])>
     Some((entry, rest))
 }
 
-/// What a name stands for, and the bytes after it.
+/// Splits off the entry of a name.
 fn take_entry(bytes: &[u8]) -> Option<(Entry, &[u8])>
     ensures found { IfSome result (λ r. (bytes.now ≡ entry_encoding r.0 ++ r.1.now) × EncodableEntry r.0) }
     ensures only { (entry : Entry) (rest : List ℕ) → EncodableEntry entry → bytes.now ≡ entry_encoding entry ++ rest
@@ -156,8 +156,8 @@ fn take_entry(bytes: &[u8]) -> Option<(Entry, &[u8])>
     }
 }
 
-/// Adds a send-once right, with the byte that announces it. If an allocation fails, some of its bytes may have been
-/// added.
+/// Appends a send-once right, with the byte that announces it. If an allocation fails, part of it may have been
+/// appended.
 fn push_send_once(out: &mut Vec<u8>, port: u64, target: Option<u64>) -> Result<(), AllocError>
     ensures { OnOk result (out.new.items ≡ out.old.items ++ entry_encoding (entry_variants.SendOnce port target)) }
 {
@@ -167,7 +167,7 @@ fn push_send_once(out: &mut Vec<u8>, port: u64, target: Option<u64>) -> Result<(
     Ok(())
 }
 
-/// Adds what a name stands for. If an allocation fails, some of its bytes may have been added.
+/// Appends the entry of a name. If an allocation fails, part of it may have been appended.
 fn push_entry(out: &mut Vec<u8>, entry: Entry) -> Result<(), AllocError>
     ensures { OnOk result (out.new.items ≡ out.old.items ++ entry_encoding entry) }
 {
@@ -191,7 +191,7 @@ fn push_entry(out: &mut Vec<u8>, entry: Entry) -> Result<(), AllocError>
     }
 }
 
-/// A name with what it stands for, and the bytes after it.
+/// Splits off a name with its entry.
 fn take_named(bytes: &[u8]) -> Option<(NamedEntry, &[u8])>
     ensures found { IfSome result (λ r. (bytes.now ≡ named_encoding r.0 ++ r.1.now) × FitsNamed r.0) }
     ensures only { (row : NamedEntry) (rest : List ℕ) → FitsNamed row → bytes.now ≡ named_encoding row ++ rest

@@ -1,9 +1,9 @@
 use std::alloc::AllocError;
 
-/// Why bytes weren't read as an image.
+/// The reason why bytes couldn't be decoded as an image.
 #[derive(Clone, Copy, Debug, PartialEq, Eq)]
 pub enum ImageFault {
-    /// They encode no state.
+    /// The bytes aren't the canonical encoding of a state.
     NotCanonical = 1,
     /// An allocation failed.
     NoMemory = 2,

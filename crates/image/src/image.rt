@@ -16,7 +16,7 @@ use snapshot::{IpcSnapshot, LivePort, Snapshot, Space, ascends};
 use std::alloc::{AllocError, Global};
 use words::{push_long_word, take_long_word, take_word};
 
-/// The spaces in front, after their number, with what they keep, and the bytes after them.
+/// Splits off the number of spaces, then the spaces with their kept replies.
 fn take_spaces(
     alloc: Global,
     version: StoreVersion,
@@ -44,7 +44,7 @@ fn take_spaces(
     Ok(Some((spaces, kept, rest)))
 }
 
-/// The live ports in front, after their number, and the bytes after them.
+/// Splits off the number of live ports, then the ports.
 fn take_ports(
     alloc: Global,
     version: StoreVersion,
@@ -71,14 +71,14 @@ fn take_ports(
     Ok(Some((ports, rest)))
 }
 
-/// Whether nothing is left.
+/// Returns true if there are no more bytes.
 fn is_end(rest: &[u8]) -> bool
     ensures { MatchBool result (rest.now ≡ []) (rest.now ≢ []) }
 {
     rest.is_empty()
 }
 
-/// The snapshot that these bytes encode.
+/// Decodes a snapshot.
 fn read_snapshot(
     alloc: Global,
     version: StoreVersion,
@@ -109,10 +109,10 @@ fn read_snapshot(
     Ok(Some(Snapshot { ipc, kept }))
 }
 
-/// The snapshot that bytes encode in a version: its numbers fit their words, and its spaces, their names and its ports
+/// Decodes the image of a version to a snapshot. Its numbers fit their words, and its spaces, their names and its ports
 /// ascend.
 ///
-/// `NotCanonical`: they encode none. `NoMemory`: an allocation failed.
+/// `NotCanonical`: the bytes are no such image. `NoMemory`: an allocation failed.
 pub fn read(alloc: Global, version: StoreVersion, bytes: &[u8]) -> Result<Snapshot, ImageFault>
     ensures found { IfOk result (λ snapshot. (bytes.now ≡ snapshot_encoding_of version snapshot) × FitsImage version snapshot) }
     ensures only { (snapshot : Snapshot) → FitsImage version snapshot → bytes.now ≡ snapshot_encoding_of version snapshot
@@ -126,8 +126,8 @@ pub fn read(alloc: Global, version: StoreVersion, bytes: &[u8]) -> Result<Snapsh
     }
 }
 
-/// Adds the encoding of a snapshot, in the current version. If an allocation fails, some of its bytes may have been
-/// added.
+/// Appends the encoding of a snapshot in the current version. If an allocation fails, part of it may have been
+/// appended.
 pub fn write_into(snapshot: &Snapshot, out: &mut Vec<u8>) -> Result<(), AllocError>
     ensures { OnOk result (out.new.items ≡ out.old.items ++ snapshot_encoding snapshot.now) }
 {

@@ -1,4 +1,4 @@
-//! Images: states as bytes, in a canonical encoding.
+//! Images: the canonical encoding of states.
 #![tactic(auto)]
 
 mod encoded;

@@ -16,7 +16,7 @@ use ipc_model::{CarriedRight, Message, PortInMessage, RightKind, Sequence, is_me
 use std::alloc::{AllocError, Global};
 use words::{push_long_word, push_word, take_long_word, take_word};
 
-/// The kind of right whose byte stands in front, and the bytes after it.
+/// Splits off the byte of a kind of right.
 fn take_kind(bytes: &[u8]) -> Option<(RightKind, &[u8])>
     ensures found { IfSome result (λ r. bytes.now ≡ number_of_kind r.0 ∷ r.1.now) }
     ensures only { (kind : RightKind) (rest : List ℕ) → bytes.now ≡ number_of_kind kind ∷ rest
@@ -27,14 +27,14 @@ fn take_kind(bytes: &[u8]) -> Option<(RightKind, &[u8])>
     Some((kind, rest))
 }
 
-/// The byte of a kind of right.
+/// Returns the byte of a kind of right.
 fn byte_of_kind(kind: RightKind) -> u8
     ensures { result ≡ number_of_kind kind }
 {
     kind as u8
 }
 
-/// What stands in a port's place in a message, and the bytes after it.
+/// Splits off a port in a message.
 fn take_place(bytes: &[u8]) -> Option<(PortInMessage, &[u8])>
     ensures found { IfSome result (λ r. (bytes.now ≡ place_encoding r.0 ++ r.1.now) × EncodablePlace r.0) }
     ensures only { (place : PortInMessage) (rest : List ℕ) → EncodablePlace place
@@ -47,7 +47,7 @@ fn take_place(bytes: &[u8]) -> Option<(PortInMessage, &[u8])>
     Some((place, rest))
 }
 
-/// What a byte and a serial stand for.
+/// Decodes a port in a message from its byte and its serial.
 fn place_of(what: u8, serial: u64) -> Option<PortInMessage>
     ensures found { IfSome result (λ place. (what ∷ long_word serial ≡ place_encoding place) × EncodablePlace place) }
     ensures only { (place : PortInMessage) → EncodablePlace place → what ∷ long_word serial ≡ place_encoding place
@@ -61,7 +61,7 @@ fn place_of(what: u8, serial: u64) -> Option<PortInMessage>
     }
 }
 
-/// Adds what stands in a port's place. If an allocation fails, some of its bytes may have been added.
+/// Appends a port in a message. If an allocation fails, part of it may have been appended.
 fn push_place(out: &mut Vec<u8>, place: PortInMessage) -> Result<(), AllocError>
     ensures { OnOk result (out.new.items ≡ out.old.items ++ place_encoding place) }
 {
@@ -78,7 +78,7 @@ fn push_place(out: &mut Vec<u8>, place: PortInMessage) -> Result<(), AllocError>
     }
 }
 
-/// A right, and the bytes after it.
+/// Splits off a right.
 fn take_right(bytes: &[u8]) -> Option<(CarriedRight, &[u8])>
     ensures found { IfSome result (λ r. (bytes.now ≡ carried_encoding r.0 ++ r.1.now) × EncodableRight r.0) }
     ensures only { (right : CarriedRight) (rest : List ℕ) → EncodableRight right
@@ -90,7 +90,7 @@ fn take_right(bytes: &[u8]) -> Option<(CarriedRight, &[u8])>
     Some((CarriedRight { kind, port }, rest))
 }
 
-/// Adds a right. If an allocation fails, some of its bytes may have been added.
+/// Appends a right. If an allocation fails, part of it may have been appended.
 fn push_right(out: &mut Vec<u8>, right: CarriedRight) -> Result<(), AllocError>
     ensures { OnOk result (out.new.items ≡ out.old.items ++ carried_encoding right) }
 {
@@ -115,7 +115,7 @@ impl Encoded for CarriedRight {
     }
 }
 
-/// What stands after ten zeros, which encode that there is no right for a reply.
+/// Returns the bytes after ten zeros, which encode that there is no reply right.
 fn after_no_reply(bytes: &[u8]) -> Option<&[u8]>
     ensures found { IfSome result (λ beyond. bytes.now ≡ 0 ∷ (0 ∷ (long_word 0 ++ beyond.now))) }
     ensures none { IfNone result ((beyond : List ℕ) → bytes.now ≡ 0 ∷ (0 ∷ (long_word 0 ++ beyond)) → ⊥) }
@@ -126,7 +126,7 @@ fn after_no_reply(bytes: &[u8]) -> Option<&[u8]>
     }
 }
 
-/// The right for the reply, or that there is none, and the bytes after it.
+/// Splits off the reply right, or the zeros that encode none.
 fn take_reply(bytes: &[u8]) -> Option<(Option<CarriedRight>, &[u8])>
     ensures found { IfSome result (λ r. (bytes.now ≡ reply_right_encoding r.0 ++ r.1.now) × EncodableReplyRight r.0) }
     ensures only { (reply : Option CarriedRight) (rest : List ℕ) → EncodableReplyRight reply
@@ -140,7 +140,7 @@ fn take_reply(bytes: &[u8]) -> Option<(Option<CarriedRight>, &[u8])>
     Some((Some(right), rest))
 }
 
-/// Adds the right for the reply. If an allocation fails, some of its bytes may have been added.
+/// Appends the reply right. If an allocation fails, part of it may have been appended.
 fn push_reply(out: &mut Vec<u8>, reply: Option<CarriedRight>) -> Result<(), AllocError>
     ensures { OnOk result (out.new.items ≡ out.old.items ++ reply_right_encoding reply) }
 {
@@ -150,7 +150,7 @@ fn push_reply(out: &mut Vec<u8>, reply: Option<CarriedRight>) -> Result<(), Allo
     }
 }
 
-/// What a message has before its rights.
+/// The fields of a message before its rights.
 #[derive(Clone, Copy)]
 struct Head {
     destination: RightKind,
@@ -160,7 +160,7 @@ struct Head {
     complex: bool,
 }
 
-/// The size of a message, and the bytes after it.
+/// Splits off the size of a message.
 fn take_size(bytes: &[u8]) -> Option<(u32, &[u8])>
     ensures found { IfSome result (λ r. bytes.now ≡ word r.0 ++ r.1.now) }
     ensures fits { IfSome result (λ r. IsMessageSize r.0) }
@@ -174,7 +174,7 @@ fn take_size(bytes: &[u8]) -> Option<(u32, &[u8])>
     Some((size, rest))
 }
 
-/// What a message has before its rights, and the bytes after it.
+/// Splits off the fields of a message before its rights.
 fn take_head(bytes: &[u8]) -> Option<(Head, &[u8])>
     ensures found { IfSome result (λ r. bytes.now ≡ number_of_kind r.0.destination ∷ (reply_right_encoding r.0.reply
         ++ (word r.0.id ++ (word r.0.size ++ (number_of_bool r.0.complex ∷ r.1.now))))) }
@@ -206,7 +206,7 @@ fn take_head(bytes: &[u8]) -> Option<(Head, &[u8])>
     Some((head, rest))
 }
 
-/// The body of a message of this size, and the bytes after it.
+/// Splits off the body of a message of this size.
 fn take_body(
     alloc: Global,
     size: u32,

@@ -14,7 +14,7 @@ use snapshot::LivePort;
 use std::alloc::{AllocError, Global};
 use words::{push_long_word, push_word, take_long_word, take_word};
 
-/// The name that a number encodes; 0 is for none.
+/// Returns the name that a number encodes, or `None` for 0.
 fn set_of(number: u32) -> Option<u32>
     ensures encoded { number ≡ number_or_0 result }
     ensures fits { EncodableSet result }
@@ -26,15 +26,14 @@ fn set_of(number: u32) -> Option<u32>
     }
 }
 
-/// The number that encodes a set's name; 0 is for none.
+/// Returns the number that encodes a set's name, 0 for none.
 fn number_of(set: Option<u32>) -> u32
     ensures { result ≡ number_or_0 set }
 {
     set.unwrap_or(0)
 }
 
-/// The limit of a port's queue, its sequence number, its make-send count and the number of its set, and the bytes after
-/// them.
+/// Splits off the limit of a port's queue, its sequence number, its make-send count and the number of its set.
 fn take_numbers(bytes: &[u8]) -> Option<(u32, u32, u32, u32, &[u8])>
     ensures found { IfSome result (λ r. bytes.now ≡ word r.0 ++ (word r.1 ++ (word r.2 ++ (word r.3 ++ r.4.now)))) }
     ensures fits { IfSome result (λ r. (r.0 < 2 ^ 32) × (r.1 < 2 ^ 32) × (r.2 < 2 ^ 32) × (r.3 < 2 ^ 32)) }
@@ -51,7 +50,7 @@ fn take_numbers(bytes: &[u8]) -> Option<(u32, u32, u32, u32, &[u8])>
     Some((limit, sequence_number, make_send_count, set, rest))
 }
 
-/// The messages in front, after their number, and the bytes after them.
+/// Splits off the number of messages, then the messages.
 fn take_messages(
     alloc: Global,
     version: StoreVersion,
@@ -70,7 +69,7 @@ fn take_messages(
     take_rows(alloc, version, count, rest)
 }
 
-/// What a port has, and the bytes after it.
+/// Splits off the state of a port.
 fn take_port(
     alloc: Global,
     version: StoreVersion,
@@ -102,7 +101,7 @@ fn take_port(
     Ok(Some((port, rest)))
 }
 
-/// Adds what a port has. If an allocation fails, some of its bytes may have been added.
+/// Appends the state of a port. If an allocation fails, part of it may have been appended.
 fn push_port(out: &mut Vec<u8>, port: &PortState) -> Result<(), AllocError>
     ensures { OnOk result (out.new.items ≡ out.old.items ++ port_encoding port.now) }
 {

@@ -1,4 +1,4 @@
-//! Spaces, each with its names and what it keeps.
+//! Spaces, each with its names and its kept reply.
 ghost use Rattle.std.specs.Prelude.{◌≡◌, ◌<◌, ◌^◌, ◌∷◌, ◌++◌, ℕ, List, Option, option_copied, All, IfOk, IfSome, IsSomeAnd, OnOk, flat_map, length, map};
 ghost use Rattle.codes.specs.StoreVersion.{current};
 ghost use Rattle.image.specs.Fitting.{AscendsFrom, FitsKept, FitsNamed, FitsRow, FitsSpace, name_of};
@@ -16,7 +16,7 @@ use snapshot::{NamedEntry, Space, ascends};
 use std::alloc::{AllocError, Global};
 use words::{push_word, take_word};
 
-/// What a space keeps, and the bytes after it. In version 1 it keeps nothing.
+/// Splits off the kept reply of a space. In version 1 there is none.
 fn take_kept(
     alloc: Global,
     version: StoreVersion,
@@ -34,7 +34,7 @@ fn take_kept(
     }
 }
 
-/// The same in version 2.
+/// Splits off the kept reply of a space in version 2.
 fn take_request(
     alloc: Global,
     bytes: &[u8],
@@ -57,7 +57,7 @@ fn take_request(
     Ok(Some((Some(kept), rest)))
 }
 
-/// The names of a space, and the bytes after them.
+/// Splits off the names of a space.
 fn take_names(
     alloc: Global,
     version: StoreVersion,
@@ -83,7 +83,7 @@ fn take_names(
     Ok(Some((names, rest)))
 }
 
-/// The space in front with what it keeps, and the bytes after it.
+/// Splits off a space with its kept reply.
 pub(crate) fn take_space(
     alloc: Global,
     version: StoreVersion,
@@ -109,7 +109,7 @@ pub(crate) fn take_space(
     Ok(Some((Space { number, names }, kept, rest)))
 }
 
-/// `count` spaces from the front, what each of them keeps, and the bytes after them.
+/// Splits off `count` spaces with their kept replies.
 pub(crate) fn take_all(
     alloc: Global,
     version: StoreVersion,
@@ -138,7 +138,7 @@ pub(crate) fn take_all(
     Ok(Some((Sequence::new(spaces), Sequence::new(all_kept), rest)))
 }
 
-/// Adds what a space keeps, in the current version.
+/// Appends the kept reply of a space in the current version.
 fn push_kept(out: &mut Vec<u8>, kept: Option<&NumberedReply>) -> Result<(), AllocError>
     ensures { OnOk result (out.new.items ≡ out.old.items ++ kept_encoding current (option_copied kept.entry)) }
 {
@@ -151,7 +151,7 @@ fn push_kept(out: &mut Vec<u8>, kept: Option<&NumberedReply>) -> Result<(), Allo
     }
 }
 
-/// Adds a space with what it keeps, in the current version.
+/// Appends a space with its kept reply in the current version.
 fn push_space(
     out: &mut Vec<u8>,
     space: &Space,
@@ -168,7 +168,7 @@ fn push_space(
     Ok(())
 }
 
-/// What the first of some spaces keeps, and what the others keep.
+/// Splits the kept replies of a list of spaces into that of the first space and the others.
 fn first_kept(kept: &[Option<NumberedReply>]) -> (Option<&NumberedReply>, &[Option<NumberedReply>])
     ensures { (space : Space) (spaces : List Space) → rows_of (space ∷ spaces) kept.now
         ≡ record { space = space; kept = option_copied result.0 } ∷ rows_of spaces result.1.now }
@@ -179,7 +179,7 @@ fn first_kept(kept: &[Option<NumberedReply>]) -> (Option<&NumberedReply>, &[Opti
     }
 }
 
-/// Adds spaces, each with what it keeps: nothing, where too few are listed.
+/// Appends spaces, each with its kept reply, or with none if the list is too short.
 pub(crate) fn push_all(
     out: &mut Vec<u8>,
     spaces: &[Space],

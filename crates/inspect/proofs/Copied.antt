@@ -1,4 +1,4 @@
--- What stands on the disk of a copy.
+-- The contents of a copy's disk.
 use Rattle.std.proofs.Common.{◌≡◌, inl, ℕ, [], Result, Ok, Err, refl, sym, ap, subst, ◌∙◌, arith}
 use Rattle.disk.specs.Moments.{View}
 use Rattle.disk.specs.Slots.{Slots}
@@ -62,7 +62,7 @@ copy_stands state holds =
     } in
     one_stands slots 0 state state [] one refl (empty_has_gate 0 (empty_segment 0) refl)
 
--- what is read of slots is a lawful state
+-- the state that is read from slots is lawful
 lawful_read : (slots : Slots) (epoch records : ℕ) (state : State) → Reads slots epoch records state
     → LawfulState state
 lawful_read slots epoch records state reads =

@@ -1,4 +1,4 @@
--- What printing a store comes to, at each exit.
+-- The outcome of printing a store, at each exit.
 use Rattle.std.proofs.Common.{◌≡◌, ◌⊎◌, inl, inr, ℕ, List, Option, Result, Ok, Err, subst}
 use Rattle.std.specs.Prelude.{◌≢◌, IfErr, IsErrOf, OnErr, OnOk}
 use Rattle.std.specs.Io.KnownBytes.{Appends, Keeps}
@@ -24,7 +24,7 @@ never_ok P (Ok v) f is = absurd (cc is)
 never_ok P (Err e) f is = tt
 
 module _ (honest : Type 0) (old new : View) (before now : ℕ) where
-  -- the text was made, whatever becomes of it
+  -- the text was made, whether or not it is sent
   pub reads_sent : (r : Result (Unit {0}) ListFault) → (honest → ReadsOnly old new) → now ≡ before
       → IfErr r (λ f. f ≡ Write) → ReadsStore honest old new before now r
   reads_sent (Ok v) reads same err = record {
@@ -46,7 +46,7 @@ module _ (honest : Type 0) (old new : View) (before now : ℕ) where
     faults = inr err;
   }
 
-  -- the store can't be read
+  -- the store couldn't be read
   pub reads_failed : {T : Type 0} (t : Result T ListFault) (f : ListFault) (r : Result (Unit {0}) ListFault)
       → t ≡ Err f → r ≡ Err f → (honest → ReadsOnly old new)
       → (honest → IsErrOf t (Store Version) → IsOtherVersion (as_written old.seen))

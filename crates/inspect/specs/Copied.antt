@@ -1,4 +1,4 @@
--- A store that was made from another one's state, and how a run that makes one ends.
+-- A store with the state of another one, and the outcome of a run that makes it.
 use Rattle.std.specs.Prelude.{◌≡◌, ◌≢◌, ◌⊎◌, ℕ, List, [], ◌++◌, Option, Some, codes}
 use Rattle.checkpoint.specs.Images.{ImageValue, open_image, unwritten}
 use Rattle.disk.specs.Moments.{View}
@@ -33,7 +33,7 @@ abbrev pub store_of : ImageValue → Slots
 store_of image =
     record { image0 = open_image image.epoch image.encoding; image1 = []; segment0 = empty_segment 0; segment1 = [] }
 
--- A disk holds the state that these slots stand for, and a crash leaves just what a read gives.
+-- A disk represents the state that these slots encode, and is synced.
 pub record IsCopyOf (slots : Slots) (copy : View) : Type 0 where
   pub state : State
   pub epoch : ℕ
@@ -47,18 +47,18 @@ of_list (list.Store fault) = Store fault
 of_list list.Busy = Busy
 of_list list.Write = Write
 
--- why a store can't be copied, where the place for the copy is empty
+-- the faults of copying a store to an empty place
 abbrev pub IsOfCopy : CopyStoreFault → Type 0
 IsOfCopy fault = (fault ≡ Store store.Device) ⊎ ((fault ≡ Store store.Damaged) ⊎ ((fault ≡ Store store.NoMemory)
     ⊎ ((fault ≡ Store store.Version) ⊎ ((fault ≡ Busy) ⊎ (fault ≡ Write)))))
 
--- 0: the store was copied; 1: a fault; 2: the arguments are not exactly two, or can't be read
+-- 0: the store was copied; 1: a fault; 2: there aren't exactly two arguments, or they can't be read
 abbrev pub copy_status_of : CopyEnd → ℕ
 copy_status_of Copied = 0
 copy_status_of CommandLine = 2
 copy_status_of (Fault fault) = 1
 
--- what follows the program's name on the line of errors; no line where the store was copied
+-- the error message after the program's name, empty if the store was copied
 abbrev pub copy_words_of : CopyEnd → List ℕ
 copy_words_of Copied = []
 copy_words_of CommandLine = codes "command line\n"
@@ -72,7 +72,7 @@ copy_line_of Copied = []
 copy_line_of CommandLine = codes "machcp: " ++ copy_words_of CommandLine
 copy_line_of (Fault fault) = codes "machcp: " ++ copy_words_of (Fault fault)
 
--- how a run may end for this many arguments, or for arguments that can't be read
+-- the possible outcomes with this many arguments, or with arguments that can't be read (None)
 abbrev pub EndsForWords : Option ℕ → CopyEnd → Type 0
 EndsForWords words CommandLine = words ≢ Some 2
 EndsForWords words Copied = words ≡ Some 2

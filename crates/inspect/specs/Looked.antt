@@ -1,4 +1,4 @@
--- Why a store couldn't be looked at, from the faults of copying it and of looking at the copy.
+-- The faults of reading a store, from those of copying it and of reading the copy.
 use Rattle.inspect.specs.declared.fault.ListFault.{ListFault}
 use Rattle.inspect.specs.declared.fault.ListFault.TheVariants.{Store, Busy}
 use Rattle.store_fault.specs.declared.fault.StoreFault.{StoreFault}
@@ -11,7 +11,7 @@ of_copying copy.Device = Store store.Device
 of_copying copy.NoMemory = Store store.NoMemory
 of_copying copy.Busy = Busy
 
--- A copy has no device: what fails in it is out of memory.
+-- A copy has no device: the device's fault means out of memory.
 abbrev pub of_looking : StoreFault → ListFault
 of_looking store.Device = Store store.NoMemory
 of_looking store.Full = Store store.Full

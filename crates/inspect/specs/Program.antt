@@ -1,4 +1,4 @@
--- How a run of an inspector ends: its status and its line of errors.
+-- The outcome of a run of an inspector: its status and its error message.
 use Rattle.std.specs.Prelude.{◌≡◌, ◌≢◌, ℕ, List, [], ◌++◌, Option, Some, codes}
 use Rattle.std.specs.Io.KnownBytes.{Appends, Keeps}
 use Rattle.disk.specs.Moments.{View}
@@ -12,13 +12,13 @@ use Rattle.store_fault.specs.Fault as store
 use Rattle.wire.specs.Fault as wire
 use Rattle.wire.specs.declared.fault.WireFault.TheVariants.{Device}
 
--- 0: the store was printed; 1: a fault; 2: the arguments are not exactly one, or can't be read
+-- 0: the store was printed; 1: a fault; 2: there isn't exactly one argument, or the arguments can't be read
 abbrev pub status_of : ShowEnd → ℕ
 status_of Shown = 0
 status_of CommandLine = 2
 status_of (Fault fault) = 1
 
--- what follows the program's name on the line of errors; no line where the store was printed
+-- the error message after the program's name, empty if the store was printed
 abbrev pub words_of : ShowEnd → List ℕ
 words_of Shown = []
 words_of CommandLine = codes "command line\n"
@@ -26,7 +26,7 @@ words_of (Fault (Store fault)) = store.fault_line fault
 words_of (Fault Busy) = codes "store busy\n"
 words_of (Fault Write) = wire.fault_line Device
 
--- a line of errors, which begins with the name of a program
+-- the error message, which begins with the name of a program
 abbrev pub line_of : List ℕ → ShowEnd → List ℕ
 line_of name Shown = []
 line_of name CommandLine = name ++ words_of CommandLine
@@ -36,8 +36,8 @@ line_of name (Fault fault) = name ++ words_of (Fault fault)
 abbrev pub IsOfDisk : {D : Type 0} → (ℕ → ℕ → State → List ℕ) → Type 0 → (D → View) → List ℕ → Type 0
 IsOfDisk {D} text_of honest view text = (disk : D) × IsTextOf text_of honest (view disk).seen text
 
--- What was written by a run with this end, for this many arguments, or for arguments that can't be read: the whole
--- text, a prefix of it where the output can't be written, or nothing.
+-- The output of a run with this outcome, for this many arguments or for arguments that can't be read: the whole text, a
+-- prefix of it if the output couldn't be written, or nothing.
 abbrev pub Prints : (List ℕ → Type 0) → Option ℕ → Option (List ℕ) → Option (List ℕ) → ShowEnd → Type 0
 Prints IsEncoding words old new CommandLine = (words ≢ Some 1) × Keeps old new
 Prints IsEncoding words old new Shown = (words ≡ Some 1) × ((text : List ℕ) × IsEncoding text × Appends old new text)

@@ -1,4 +1,4 @@
-// The whole program that copies a store.
+// The program `machcp`, which copies a store.
 ghost use Rattle.std.specs.Prelude.{◌≡◌, ◌++◌, codes, length, option_map, IfErr, OnErr, OnOk};
 ghost use Rattle.std.specs.Io.KnownBytes.{Appends};
 ghost use Rattle.inspect.specs.Copied.{EndsForWords, copy_line_of, copy_status_of, copy_words_of};
@@ -15,19 +15,19 @@ use std::rt::Files;
 use store_fault::StoreFault;
 use wire::WireFault;
 
-/// How a run of `machcp` ends.
+/// The outcome of a run of `machcp`.
 #[derive(Clone, Copy, Debug, PartialEq, Eq)]
 pub enum CopyEnd {
     /// The store was copied.
     Copied,
-    /// There aren't exactly two words, or the words can't be read.
+    /// There aren't exactly two arguments, or they can't be read.
     CommandLine,
     /// The store can't be copied.
     Fault(CopyStoreFault),
 }
 
 impl CopyEnd {
-    /// The status to end with: 0 without a fault, 1 after a fault, 2 if there aren't exactly two words or the words
+    /// Returns the exit status: 0 without a fault, 1 after a fault, 2 if there aren't exactly two arguments or they
     /// can't be read.
     pub fn status(self) -> u8
         ensures { result ≡ copy_status_of self }
@@ -39,7 +39,7 @@ impl CopyEnd {
         }
     }
 
-    /// What follows the program's name on the line of errors: nothing if the store was copied.
+    /// Returns the error message after the program's name, or the empty string if the store was copied.
     pub fn words(self) -> &'static str
         ensures { result.now ≡ copy_words_of self }
     {
@@ -53,8 +53,8 @@ impl CopyEnd {
         }
     }
 
-    /// Writes the line of errors, if there is one. `Device`: the writer failed, and some first bytes of the line may
-    /// have been written.
+    /// Writes the error message, if there is one. `Device`: the writer failed, and a prefix of the message may have
+    /// been written.
     pub fn tell<E: Write>(self, errors: &mut E) -> Result<(), WireFault>
         ensures ok { OnOk result (Appends (E.contents errors.old) (E.contents errors.new) (copy_line_of self)) }
         ensures part { OnErr result (AppendsPart (E.contents errors.old) (E.contents errors.new) (copy_line_of self)) }
@@ -68,12 +68,12 @@ impl CopyEnd {
     }
 }
 
-/// The whole of `machcp`: the words of its command line, or none if they can't be read as text, and its errors. It
-/// returns the status to end with.
+/// Runs `machcp` with its arguments, or `None` if they can't be read as text, and its error stream. Returns the exit
+/// status.
 ///
-/// The first word is the store's folder, whose files are opened only for reading; the second one is that of the copy,
-/// which must not exist. 0: the copy was made, and is on the disk. 1: after a fault, with a line of errors. 2: there
-/// aren't exactly two words or the words can't be read, with a line of errors too.
+/// The first argument is the store's folder, whose files are opened only for reading. The second one is the folder of
+/// the copy, which must not exist. 0: the copy was made, and is durable. 1: a fault, with an error message. 2: there
+/// aren't exactly two arguments or they can't be read, with an error message.
 pub fn copy_store<F: Files, E: Write>(
     alloc: Global,
     files: &F,
@@ -89,7 +89,7 @@ pub fn copy_store<F: Files, E: Write>(
     end.status()
 }
 
-/// What `copy_store` does except for its line of errors.
+/// Does everything that `copy_store` does, except for the error message.
 pub fn run_copy<F: Files>(alloc: Global, files: &F, words: Option<&[String]>) -> CopyEnd
     ensures { EndsForWords (option_map (λ texts. length texts.now) words.entry) result }
 {
@@ -102,8 +102,8 @@ pub fn run_copy<F: Files>(alloc: Global, files: &F, words: Option<&[String]>) ->
     }
 }
 
-/// Copies the store in a folder into a new folder. It is made under another name, and gets its own once all of it is on
-/// the disk.
+/// Copies the store in a folder into a new folder. The copy is made under another name, and renamed once all of it is
+/// durable.
 fn copy_folder<F: Files>(
     alloc: Global,
     files: &F,
@@ -124,7 +124,7 @@ fn copy_folder<F: Files>(
         return Err(CopyStoreFault::Write);
     }
     if let Err(fault) = copy_into(alloc, files, &mut from, part.as_str()) {
-        // It is empty if the store couldn't be read.
+        // The folder is empty if the store couldn't be read.
         let _ = fs::remove_dir(files, part.as_str());
         return Err(fault);
     }
@@ -134,7 +134,7 @@ fn copy_folder<F: Files>(
     }
 }
 
-/// Whether no file has this name.
+/// Returns true if no file has this name.
 fn is_free<F: Files>(files: &F, path: &str) -> bool {
     match fs::symlink_metadata(files, path) {
         Ok(_) => false,
@@ -142,7 +142,7 @@ fn is_free<F: Files>(files: &F, path: &str) -> bool {
     }
 }
 
-/// Copies a store into a folder, which is empty.
+/// Copies a store into an empty folder.
 fn copy_into<D: Disk, F: Files>(
     alloc: Global,
     files: &F,
@@ -155,7 +155,7 @@ fn copy_into<D: Disk, F: Files>(
     copy(alloc, from, &mut to)
 }
 
-/// Gives a folder the name of the copy, on the disk.
+/// Renames the folder to the name of the copy, and syncs the rename.
 fn name_copy<F: Files>(files: &F, part: &str, path: &str) -> io::Result<()> {
     fs::rename(files, part, path)?;
     let parent = match Path::new(path).parent() {

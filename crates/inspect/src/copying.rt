@@ -1,4 +1,4 @@
-// A new store that begins in the state of another one.
+// Creates a new store that begins with the state of another one.
 ghost use Rattle.std.specs.Prelude.{◌≡◌, ◌≢◌, Err, IfErr, IfOk, IsErrOf, OnErr, OnOk};
 ghost use Rattle.disk.specs.Moments.{CountsFailure, MayLeave, Passes, ReadsOnly, one_more};
 ghost use Rattle.disk.specs.Slots.{empty_slots};
@@ -19,16 +19,16 @@ use slot_steps::OPEN_GATE;
 use std::alloc::Global;
 use store_fault::StoreFault;
 
-/// Why a store couldn't be copied.
+/// The reason why a store couldn't be copied.
 #[derive(Clone, Copy, Debug, PartialEq, Eq)]
 pub enum CopyStoreFault {
-    /// The store can't be read.
+    /// The store couldn't be read.
     Store(StoreFault),
-    /// The store was changed during each try to read it.
+    /// The store was changed during each attempt to read it.
     Busy,
-    /// Something is at the copy's place already.
+    /// There is already a file at the copy's path.
     Exists,
-    /// The copy can't be written.
+    /// The copy couldn't be written.
     Write,
 }
 
@@ -58,7 +58,7 @@ impl From<DiskFault> for CopyStoreFault {
     }
 }
 
-/// The segment of epoch 0 without a record: an open gate, the version, the epoch, and a closed gate.
+/// Returns the segment of epoch 0 without records: an open gate, the version, the epoch, and a closed gate.
 fn first_segment() -> [u8; 17]
     ensures { result ≡ empty_segment 0 }
 {
@@ -68,7 +68,7 @@ fn first_segment() -> [u8; 17]
     ]
 }
 
-/// The image of the state with these rows, of epoch 0.
+/// Returns the image of the state with these rows, of epoch 0.
 ///
 /// `NoMemory`: an allocation failed.
 fn image_of(alloc: Global, rows: Snapshot) -> Result<Image, StoreFault>
@@ -78,7 +78,7 @@ fn image_of(alloc: Global, rows: Snapshot) -> Result<Image, StoreFault>
     let image = Image::of(alloc, 0, &rows)?;
     let _ = image.size();
     image_is_of_state();
-    // The rows are those of a kernel, so what fails is an allocation.
+    // The rows are those of a kernel, so only an allocation can have failed.
     let Ok(kernel) = Kernel::from_snapshot(alloc, rows) else {
         return Err(StoreFault::NoMemory);
     };
@@ -100,7 +100,7 @@ fn sync_all<E: Disk>(to: &mut E) -> Result<(), DiskFault>
     to.sync(Slot::Segment1)
 }
 
-/// Writes a segment without a record and an image, and syncs the four slots.
+/// Writes a segment without records and an image, and syncs the four slots.
 fn write_store<E: Disk>(to: &mut E, image: &Image) -> Result<(), DiskFault>
     requires { image.now.epoch ≡ 0 }
     ensures made { E.honest → (E.view to.old).seen ≡ empty_slots
@@ -113,11 +113,12 @@ fn write_store<E: Disk>(to: &mut E, image: &Image) -> Result<(), DiskFault>
     sync_all(to)
 }
 
-/// Copies a store to an empty disk: a store in epoch 0 that begins in the state of the first one, without a record. The
-/// first store may be in use, and isn't written to. At `Ok` the whole copy is on its disk.
+/// Copies a store to an empty disk: a store in epoch 0 without records, which begins with the state of the first one.
+/// The first store may be in use, and isn't written to. At `Ok` the whole copy is durable.
 ///
-/// `Store`: the store can't be read (`Device`, `Damaged`, `Version`), or an allocation failed (`NoMemory`). `Busy`: the
-/// store was changed during each try to read it. With these, nothing was written. `Write`: the disk of the copy failed.
+/// `Store`: the store couldn't be read (`Device`, `Damaged`, `Version`), or an allocation failed (`NoMemory`). `Busy`:
+/// the store was changed during each attempt to read it. After these faults nothing was written. `Write`: the disk of
+/// the copy failed.
 pub fn copy<D: Disk, E: Disk>(alloc: Global, from: &mut D, to: &mut E) -> Result<(), CopyStoreFault>
     ensures copied { D.honest → E.honest → (E.view to.old).seen ≡ empty_slots
         → OnOk result (IsCopyOf (D.view from.old).seen (E.view to.new)) }

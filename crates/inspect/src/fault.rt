@@ -3,14 +3,14 @@ use still_disk::CopyFault;
 use store_fault::StoreFault;
 use wire::WireFault;
 
-/// Why a store couldn't be printed.
+/// The reason why a store couldn't be printed.
 #[derive(Clone, Copy, Debug, PartialEq, Eq)]
 pub enum ListFault {
-    /// The store can't be read.
+    /// The store couldn't be read.
     Store(StoreFault),
-    /// During each try to copy the store, a slot's front changed.
+    /// A slot's front changed during each attempt to copy the store.
     Busy,
-    /// The writer failed, or takes no more bytes.
+    /// The writer failed, or accepts no more bytes.
     Write,
 }
 

@@ -1,4 +1,4 @@
-//! The inspector: what a store holds, as lines, as a drawing, and as a new store. It writes nothing to the store.
+//! The inspector: prints a store as lines or as a drawing, or copies it to a new store. It never writes to the store.
 #![tactic(auto)]
 
 mod copy_program;

@@ -1,4 +1,4 @@
-// A look at a store that may be in use.
+// Reads a store that may be in use.
 ghost use Rattle.std.specs.Prelude.{◌≡◌, ◌≢◌, ◌⊎◌, Err, IfErr, IfOk, IsErrOf, OnErr, OnOk};
 ghost use Rattle.disk.specs.Moments.{ReadsOnly, one_more};
 ghost use Rattle.inspect.specs.Looked.{of_looking};
@@ -15,7 +15,7 @@ use std::alloc::Global;
 use still_disk::{StillDisk, still_copy};
 use store_fault::StoreFault;
 
-/// Why a look at a copy failed. The copy is in memory, so the fault isn't a device's: memory ran out.
+/// Returns the fault for a failed look at a copy. The copy is in memory, so the device's fault means out of memory.
 fn fault_of_copy(fault: StoreFault) -> ListFault
     ensures { result ≡ of_looking fault }
 {
@@ -25,7 +25,7 @@ fn fault_of_copy(fault: StoreFault) -> ListFault
     }
 }
 
-/// Looks at a copy, and drops it.
+/// Reads a copy, and drops it.
 fn look_at_copy(alloc: Global, copy: StillDisk) -> Result<Looked, StoreFault>
     ensures state { IfOk result (IsLook (Unit {0}) (still_slots copy)) }
     ensures version { IsErrOf result StoreFault.Version → IsOtherVersion (as_written (still_slots copy)) }
@@ -39,7 +39,7 @@ fn look_at_copy(alloc: Global, copy: StillDisk) -> Result<Looked, StoreFault>
     looked
 }
 
-/// Looks at a copy of a store, so that a server may go on with the store meanwhile. Nothing is written to the store.
+/// Reads a copy of a store, so that a server may continue with the store meanwhile. Nothing is written to the store.
 pub(crate) fn look_still<D: Disk>(alloc: Global, disk: &mut D) -> Result<Looked, ListFault>
     ensures state { IfOk result (IsLook D.honest (D.view disk.old).seen) }
     ensures reads_only { D.honest → ReadsOnly (D.view disk.old) (D.view disk.new) }

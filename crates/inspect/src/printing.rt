@@ -17,19 +17,19 @@ use std::io::Write;
 use store_fault::StoreFault;
 use wire::write_bytes;
 
-/// What may be printed of a store.
+/// A form in which a store is printed.
 pub(crate) trait Form {
     /// The text of a state, with the epoch of its image and the number of records.
     ghost text_of: { ℕ → ℕ → State → List ℕ };
 
-    /// Appends the text of what a look at a store found.
+    /// Appends the text of a store that was read.
     fn append(&self, alloc: Global, look: &Looked, text: &mut Vec<u8>) -> Result<(), AllocError>
         ensures { (state : State) → look.now.snapshot ≡ snapshot_of state
             → OnOk result (text.new.items ≡ text.old.items ++ text_of look.now.epoch look.now.records state) };
 }
 
-/// Lines: `epoch E records N`; each space with its names; each live port with where its receive right is, its rights'
-/// counts and its queue.
+/// Lines: `epoch E records N`; each space with its names; each live port with the place of its receive right, the
+/// counts of its rights and its queue.
 #[derive(Clone, Copy)]
 pub(crate) struct Lines;
 
@@ -58,13 +58,13 @@ impl Form for Drawing {
 }
 
 /// Writes the lines of a store, and flushes them: `epoch E records N`; each space with its names; each live port with
-/// where its receive right is, its rights' counts and its queue. The store isn't written to.
+/// the place of its receive right, the counts of its rights and its queue. The store isn't written to.
 ///
-/// What is printed is a copy in memory, so a server may go on with the store meanwhile.
+/// It prints a copy in memory, so a server may continue with the store meanwhile.
 ///
-/// `Store`: the store can't be read (`recover::look` says why: `Device`, `Damaged`, `NoMemory` or `Version`), and
-/// nothing was written. `Busy`: no copy of it could be made (`still_disk::still_copy`), and nothing was written.
-/// `Write`: the writer failed, and some first bytes of the lines may have been written.
+/// `Store`: the store couldn't be read, for a reason of `recover::look` (`Device`, `Damaged`, `NoMemory` or `Version`),
+/// and nothing was written. `Busy`: no copy of it could be made (`still_disk::still_copy`), and nothing was written.
+/// `Write`: the writer failed, and a prefix of the lines may have been written.
 pub fn list<D: Disk, W: Write>(alloc: Global, disk: &mut D, writer: &mut W) -> Result<(), ListFault>
     ensures prints { PrintsText (IsTextOf listing_of D.honest (D.view disk.old).seen) (W.contents writer.old)
         (W.contents writer.new) result }
@@ -105,7 +105,7 @@ pub(crate) fn print<D: Disk, F: Form, W: Write>(
     send(writer, &text)
 }
 
-/// The text of a store in a form.
+/// Returns the text of a store in a form.
 fn text_of<D: Disk, F: Form>(alloc: Global, disk: &mut D, form: &F) -> Result<Vec<u8>, ListFault>
     ensures text { IfOk result (λ text. IsTextOf F.text_of D.honest (D.view disk.old).seen text.items) }
     ensures reads_only { D.honest → ReadsOnly (D.view disk.old) (D.view disk.new) }
@@ -128,7 +128,7 @@ fn text_of<D: Disk, F: Form>(alloc: Global, disk: &mut D, form: &F) -> Result<Ve
     Ok(text)
 }
 
-/// Writes a whole text, and flushes it. If the writer fails, some first bytes may have been written.
+/// Writes a whole text, and flushes it. If the writer fails, a prefix may have been written.
 fn send<W: Write>(writer: &mut W, text: &[u8]) -> Result<(), ListFault>
     ensures ok { OnOk result (Appends (W.contents writer.old) (W.contents writer.new) text.now) }
     ensures part { OnErr result (AppendsPart (W.contents writer.old) (W.contents writer.new) text.now) }

@@ -13,20 +13,20 @@ use std::rt::Files;
 use store_fault::StoreFault;
 use wire::{WireFault, write_bytes};
 
-/// How a run of an inspector ends.
+/// The outcome of a run of an inspector.
 #[derive(Clone, Copy, Debug, PartialEq, Eq)]
 pub enum ShowEnd {
     /// The store was printed.
     Shown,
-    /// There isn't exactly one word, or the words can't be read.
+    /// There isn't exactly one argument, or the arguments can't be read.
     CommandLine,
-    /// The store can't be read, or the output can't be written.
+    /// The store couldn't be read, or the output couldn't be written.
     Fault(ListFault),
 }
 
 impl ShowEnd {
-    /// The status to end with: 0 without a fault, 1 after a fault, 2 if there isn't exactly one word or the words can't
-    /// be read.
+    /// Returns the exit status: 0 without a fault, 1 after a fault, 2 if there isn't exactly one argument or the
+    /// arguments can't be read.
     pub fn status(self) -> u8
         ensures { result ≡ status_of self }
     {
@@ -37,7 +37,7 @@ impl ShowEnd {
         }
     }
 
-    /// What follows the program's name on the line of errors: nothing if the store was printed.
+    /// Returns the error message after the program's name, or the empty string if the store was printed.
     pub fn words(self) -> &'static str
         ensures { result.now ≡ words_of self }
     {
@@ -50,8 +50,8 @@ impl ShowEnd {
         }
     }
 
-    /// Writes the line of errors after this program name, if there is one. `Device`: the writer failed, and some first
-    /// bytes of the line may have been written.
+    /// Writes the error message after this program name, if there is one. `Device`: the writer failed, and a prefix of
+    /// the message may have been written.
     pub fn tell<E: Write>(self, name: &str, errors: &mut E) -> Result<(), WireFault>
         ensures ok { OnOk result (Appends (E.contents errors.old) (E.contents errors.new) (line_of name.now self)) }
         ensures part { OnErr result (AppendsPart (E.contents errors.old) (E.contents errors.new)
@@ -76,11 +76,11 @@ pub(crate) fn write_line<E: Write>(errors: &mut E, name: &str, words: &str) -> R
     write_bytes(errors, words.as_bytes())
 }
 
-/// The whole of `machls`: the words of its command line, or none if they can't be read as text, its output and errors.
-/// It returns the status to end with.
+/// Runs `machls` with its arguments, or `None` if they can't be read as text, its output and its error stream. Returns
+/// the exit status.
 ///
-/// The one word is the store's folder; its files are opened only for reading. 0: its lines were written. 1: after a
-/// fault, with a line of errors. 2: there isn't exactly one word or the words can't be read, with a line of errors too.
+/// The argument is the store's folder; its files are opened only for reading. 0: its lines were written. 1: a fault,
+/// with an error message. 2: there isn't exactly one argument or the arguments can't be read, with an error message.
 pub fn show<'a, F: Files, W: Write, E: Write>(
     alloc: Global,
     files: &'a F,
@@ -99,7 +99,7 @@ pub fn show<'a, F: Files, W: Write, E: Write>(
     end.status()
 }
 
-/// What `show` does except for its line of errors.
+/// Does everything that `show` does, except for the error message.
 pub fn run_show<'a, F: Files, W: Write>(
     alloc: Global,
     files: &'a F,
@@ -113,7 +113,7 @@ pub fn run_show<'a, F: Files, W: Write>(
     run(alloc, files, words, &Lines, output)
 }
 
-/// The whole of `machmap`, which is `machls` with a drawing in place of the lines.
+/// Runs `machmap`, which is `machls` with a drawing in place of the lines.
 pub fn show_drawing<'a, F: Files, W: Write, E: Write>(
     alloc: Global,
     files: &'a F,
@@ -132,7 +132,7 @@ pub fn show_drawing<'a, F: Files, W: Write, E: Write>(
     end.status()
 }
 
-/// What `show_drawing` does except for its line of errors.
+/// Does everything that `show_drawing` does, except for the error message.
 pub fn run_drawing<'a, F: Files, W: Write>(
     alloc: Global,
     files: &'a F,
@@ -146,7 +146,7 @@ pub fn run_drawing<'a, F: Files, W: Write>(
     run(alloc, files, words, &Drawing, output)
 }
 
-/// Prints the store in the folder that the one word names.
+/// Prints the store in the folder that the one argument names.
 fn run<'a, F: Files, P: Form, W: Write>(
     alloc: Global,
     files: &'a F,

@@ -1,4 +1,4 @@
--- What is named covers what has changed.
+-- The reported places cover all changes.
 use Rattle.std.proofs.Common.{◌≡◌, ◌⊎◌, inl, inr, ℕ, ◌^◌, ◌<◌, ◌≤◌, ◌/◌, ◌%◌, ◌==◌, nat_lt, Bool, true, false, ◌||◌, List, [], ◌∷◌, ◌++◌, length, nat_le, Option, None, Some, is_some, option_map, option_and_then, refl, sym, ◌∙◌, ap, subst, arith}
 use Rattle.std.proofs.lemmas.Bool.{ltb-true, ltb-false}
 use Rattle.std.proofs.lemmas.Bool.Decides.{nat_tests}
@@ -22,7 +22,7 @@ use Rattle.tracked_map.specs.Touched.{is_touched, touched_append}
 use Rattle.waiting.specs.Places.{IsMore, Named, all_named, names, place_of_name, place_of_port}
 use Rattle.waiting.specs.Waiting.{Covers, IsQuiet, Occupancy, occupancy, occupancy_at}
 
--- more places are named
+-- more places are reported
 
 pub more_set : (old new : Named) (spaces : SpaceMap) (ports : Ports) (number : ℕ) → IsMore old new
     → IsSetListed (names old) spaces ports number → IsSetListed (names new) spaces ports number
@@ -55,7 +55,7 @@ more_for old new set has number more is =
 pub more_more : (one two three : Named) → IsMore one two → IsMore two three → IsMore one three
 more_more one two three first second place is = second place (first place is)
 
--- the last of a list is done
+-- the last element of a list is handled
 
 or_cases : (a b : Bool) → (a || (b || false)) ≡ true → (a ≡ true) ⊎ (b ≡ true)
 or_cases true b is = inl refl
@@ -87,7 +87,7 @@ all_off P all rest none each n there = elim (each n there) as (λ _. P n) [
   | inr holds ↦ holds
 ]
 
--- what is still to be done stays so
+-- a weaker property of the handled elements
 pub later_or : (P Q : ℕ → Type 0) (all rest : List ℕ) → ((n : ℕ) → P n → Q n)
     → ((n : ℕ) → is_touched n all ≡ true → (is_touched n rest ≡ true) ⊎ P n) → (n : ℕ) → is_touched n all ≡ true
     → (is_touched n rest ≡ true) ⊎ Q n
@@ -96,14 +96,14 @@ later_or P Q all rest more each n there = elim (each n there) as (λ _. (is_touc
   | inr holds ↦ inr (more n holds)
 ]
 
--- what was kept or named is kept or named
+-- a weaker property of the unchanged or reported elements
 pub kept_or : (A P Q : ℕ → Type 0) → ((n : ℕ) → P n → Q n) → ((n : ℕ) → A n ⊎ P n) → (n : ℕ) → A n ⊎ Q n
 kept_or A P Q more each n = elim (each n) as (λ _. A n ⊎ Q n) [
   | inl kept ↦ inl kept
   | inr holds ↦ inr (more n holds)
 ]
 
--- a port whose room and receivers are named
+-- a port whose room and receivers are reported
 none_left : (messages : List Message) → length messages ≡ 0 → messages ≡ []
 none_left [] none = refl
 none_left (m ∷ ms) none = absurd (omega (arith, none))
@@ -170,7 +170,7 @@ listed_port spaces ports serial held numbers has named are long none room listed
             → is_number (at_place received_port spaces number) serial ≡ true
         here number at = ap (λ (o : Option ℕ). is_number o serial) at ∙ number_itself serial
 
--- what isn't in a list is as it was
+-- elements that aren't in the list are unchanged
 pub by_list : (A P : ℕ → Type 0) (all : List ℕ) → ((n : ℕ) → is_touched n all ≡ false → A n)
     → ((n : ℕ) → is_touched n all ≡ true → P n) → (n : ℕ) → A n ⊎ P n
 by_list A P all kept done n = go (is_touched n all) refl
@@ -179,7 +179,7 @@ by_list A P all kept done n = go (is_touched n all) refl
     go true there = inr (done n there)
     go false off = inl (kept n off)
 
--- a state's names and ports, and what covers their changes
+-- The names and the ports of two states, and places that cover their changes.
 module _ (spaces_before spaces : SpaceMap) (table_before table : PortTable) (named : ℕ → Bool)
     (small_before : AreSmall spaces_before) (small : AreSmall spaces)
     (listed_names : (number : ℕ) → (entry_at_place spaces number ≡ entry_at_place spaces_before number)
@@ -243,7 +243,7 @@ module _ (spaces_before spaces : SpaceMap) (table_before table : PortTable) (nam
         | Some port ↦ refl
       ]
 
-  -- the place of a name that stands for a receive right
+  -- the place of a name that holds a receive right
   at_receiver : (space name : ℕ) (entry : Entry) (serial : ℕ) → entry_at new space name ≡ Some entry
       → received_port entry ≡ Some serial → (place space name < 2 ^ 64)
       × (at_place received_port spaces (place space name) ≡ Some serial) × (name < 2 ^ 32)
@@ -317,7 +317,7 @@ module _ (spaces_before spaces : SpaceMap) (table_before table : PortTable) (nam
                 (subst (λ (k : ℕ). named (place k set) ≡ true) (parts_of space name q.2).0 on)
           ]
 
--- Where all places are named, they cover every change.
+-- If all places are reported, they cover every change.
 pub all_cover : (old new : Ipc) (named : Named) → named.are_all ≡ true → Covers old new (names named)
 all_cover old new named all = record {
   entries = λ space name off. clash (place_of_name space name) off;

@@ -1,4 +1,4 @@
--- After each change the members are found where their places say.
+-- Each change keeps the index of members.
 use Rattle.std.proofs.Common.{◌≡◌, ℕ, ◌+◌, ◌^◌, ◌≤◌, nat_lt, arith, ◌<◌, ◌/◌, ◌%◌, ◌==◌, Bool, true, false, cond, Option, None, Some, is_some, option_map, option_and_then, refl, sym, ◌∙◌, ap, subst}
 use Rattle.std.proofs.lemmas.Bool.{eqb-true, eq-eqb, ltb-false, ltb-true}
 use Rattle.std.specs.Cmp.{nat_cmp_total}
@@ -22,7 +22,7 @@ use Rattle.spaces.specs.Looking.{entry_in, place}
 use Rattle.spaces.specs.Renamed.{not_renamed}
 use Rattle.spaces.specs.Slots.{SpaceMap, TrackedSpaces, names_changed}
 
--- which members there were, and are
+-- the index at the last commit or rollback, and now
 abbrev pub Members : TrackedSpaces → TrackedPorts → Tracked (Unit {0}) → Type 0
 Members spaces ports members =
     AreMembers spaces.before ports.before.ports members.before
@@ -76,7 +76,7 @@ pub gone_looks : (name : ℕ) (names : Names) (n : ℕ)
     → get (remove names name) n ≡ cond (eq_by_cmp nat_cmp n name) None (get names n)
 gone_looks name names n = get-remove nat_cmp_total names name n
 
--- one port changed, if it lives
+-- one port changed, if it is live
 get_port_changed : (ports : Ports) (serial : ℕ) (change : PortState → PortState) (q : ℕ)
     → get (changed ports serial change) q
     ≡ cond (eq_by_cmp nat_cmp q serial) (option_map change (get ports serial)) (get ports q)
@@ -101,7 +101,7 @@ same_set : (change : PortState → PortState) → ((p : PortState) → (change p
 same_set change same None = refl
 same_set change same (Some port) = same port
 
--- a change of one port that leaves it in its set
+-- a change of a port that leaves it in its set
 pub set_stays : (ports : Ports) (serial : ℕ) (change : PortState → PortState)
     → ((p : PortState) → (change p).set ≡ p.set) → (q : ℕ) → set_in ports q ≡ set_in (changed ports serial change) q
 set_stays ports serial change same q =
@@ -119,7 +119,7 @@ apart_keys q serial apart = go (eq_by_cmp nat_cmp q serial) refl
     go true is = absurd (cc (sym apart ∙ eq-eqb q serial (key_is q serial is)))
     go false _ = refl
 
--- one port changed: the others are in their sets
+-- one port changed, and the others stay in their sets
 pub differ_at : (ports : Ports) (serial : ℕ) (change : PortState → PortState)
     → DifferAt serial ports (changed ports serial change)
 differ_at ports serial change = λ other apart.
@@ -167,7 +167,7 @@ module _ (spaces : TrackedSpaces) (old new : TrackedPorts) (members : Tracked (U
           sym (ap set_of (get-insert nat_cmp_total old.current.ports old.current.next new_port q)
           ∙ go q (eq_by_cmp nat_cmp q old.current.next) refl)
 
--- what a name stands for after the death of a port
+-- the entry of a name after the death of a port
 entry_dead : (spaces : SpaceMap) (serial space name : ℕ)
     → entry_in (map_values (map_values (entry_after_death serial)) spaces) space name
     ≡ option_map (entry_after_death serial) (entry_in spaces space name)
@@ -193,7 +193,7 @@ module _ (ports : Ports) (serial : ℕ) where
       (λ (b : Bool). cond b None (get ports q)) (apart_keys q serial apart)))
       ∙ same_set (port_after_death serial) (λ p. refl) (get ports q)
 
-  -- a name is a member of the same set after the death of a port that was in none
+  -- the death of a port that is in no set leaves the member of each entry unchanged
   set_dead : set_in ports serial ≡ None → (o : Option Entry)
       → option_and_then (set_in left) (option_and_then received_port (option_map (entry_after_death serial) o))
       ≡ option_and_then (set_in ports) (option_and_then received_port o)
@@ -241,7 +241,7 @@ port_buried spaces after old new members serial outside names ports are =
           (set_dead old.current.ports serial outside (entry_in spaces.current (q / 2 ^ 32) (q % 2 ^ 32))))) are.1,
     ))
 
--- one more place is done as a port goes to another set
+-- one more place is updated while a port moves to another set
 abbrev pub MovesTo : SpaceMap → ℕ → Option ℕ → Option ℕ → Numbers → ℕ → Numbers → Type 0
 MovesTo spaces serial former set start at now =
     (before after : Ports) → DifferAt serial before after → set_in before serial ≡ former → set_in after serial ≡ set
@@ -265,7 +265,7 @@ moves_on spaces serial at next former set start members then is_next is moving =
     (sym is_set))
     (moving before after differ was is_set are)
 
--- a live port's numbers replaced, with its set's place
+-- a live port's numbers are replaced, and its place in the index with them
 pub numbers_replaced : (spaces : SpaceMap) (ports : Ports) (serial : ℕ) (former numbers : PortNumbers)
     (start now : Numbers) → option_map numbers_of (get ports serial) ≡ Some former
     → ((before after : Ports) → DifferAt serial before after → set_in before serial ≡ former.set
@@ -315,7 +315,7 @@ removed_alike ports serial port = same_map nat_cmp_total nat_cmp-IsAntisymmetric
     go q false apart =
         get-insert nat_cmp_total ports serial port q ∙ ap (λ (b : Bool). cond b (Some port) (get ports q)) apart
 
--- the death of a port is the same whether it was in a set
+-- a port's death is the same if it leaves its set first
 pub outside_alike : (state : Ipc) (serial : ℕ)
     → after_death (in_no_set state serial) serial ≡ after_death state serial
 outside_alike state serial = go (get state.ports serial)
@@ -335,7 +335,7 @@ outside_alike state serial = go (get state.ports serial)
         })
         (removed_alike state.ports serial (record port { set = None }))
 
--- one entry under another name
+-- An entry moves to another name.
 module _ (old new : TrackedSpaces) (ports : TrackedPorts) (members : Tracked (Unit {0}))
     (are : Members old ports members) (space from to : ℕ) (entry : Entry)
     (named : entry_in old.current space from ≡ Some entry) (unused : entry_in old.current space to ≡ None) where
@@ -380,7 +380,7 @@ module _ (old new : TrackedSpaces) (ports : TrackedPorts) (members : Tracked (Un
       go (Some names) none =
           get-remove nat_cmp_total names from to ∙ gone (eq_by_cmp nat_cmp to from) (get names to) none
 
-  -- taken out and put under the other name, it is renamed
+  -- removing it and adding it under the other name moves it
   renamed_is : names_changed taken space (λ (names : Names). insert names to entry) ≡ names_changed old.current space
       (λ (names : Names). under_other_name names from to)
   renamed_is = go (get old.current space) refl named
@@ -451,7 +451,7 @@ module _ (old new : TrackedSpaces) (ports : TrackedPorts) (members : Tracked (Un
             (place space to) None (set_place_of ports.current.ports space (Some entry)))) renamed_is two,
       ))
 
--- the same, if nothing may stand under the name
+-- the same, if the name may have no entry
 pub renamed_members : (old new : TrackedSpaces) (ports : TrackedPorts) (members after : Tracked (Unit {0}))
     → Members old ports members → (space from to : ℕ) → entry_in old.current space to ≡ None → from < 2 ^ 32
     → to < 2 ^ 32 → space < 2 ^ 32
@@ -470,7 +470,7 @@ renamed_members old new ports members after are space from to unused small other
     go (Some entry) named moves =
         name_renamed old new ports members are space from to entry named unused after small other few is moves
 
--- a space that is changed and then removed is just removed
+-- changing a space and then removing it is removing it
 removed_again : (spaces : SpaceMap) (space : ℕ) (names : Names)
     → remove (insert spaces space names) space ≡ remove spaces space
 removed_again spaces space names = same_map nat_cmp_total nat_cmp-IsAntisymmetric _ _ (λ q.
@@ -497,7 +497,7 @@ same_alongside state space name = go (get state.spaces space)
     go (Some names) =
         ap (λ (m : SpaceMap). record state { spaces = m }) (removed_again state.spaces space (remove names name))
 
--- the names below one are gone, and so is this
+-- after names below one are removed, that one is removed
 pub one_gone : (state : Ipc) (space at name : ℕ) → ((q : ℕ) → q < at → get (names_in state space) q ≡ None)
     → ((q : ℕ) → at ≤ q → q < name → get (names_in state space) q ≡ None)
     → (q : ℕ) → q < name + 1 → get (names_in (without_name state space name) space) q ≡ None

@@ -1,4 +1,4 @@
--- A name is a member of a set where its port's numbers name the set.
+-- A name is a member of a set if its port's numbers name the set.
 use Rattle.std.proofs.Common.{◌≡◌, ℕ, eqb, Bool, false, cond, Option, None, Some, option_and_then, refl, sym, ◌∙◌, ap}
 use Rattle.std.specs.FinMap as finmap
 use Rattle.std.specs.Option.{option_eq}

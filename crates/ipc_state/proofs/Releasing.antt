@@ -1,4 +1,4 @@
--- The releases of a message as it is seen.
+-- The releases of a message's rights, without those of dead ports.
 use Rattle.std.specs.Prelude.{ℕ, Bool, ◌≡◌, List, [], ◌∷◌, ◌++◌, map, flat_map, option_map, refl}
 use Rattle.std.proofs.Common.{ap, sym, ◌∙◌, append_assoc}
 use Rattle.ipc_model.specs.declared.message.CarriedRight.{CarriedRight}
@@ -11,7 +11,7 @@ pub seen_each : {A B C : Type 0} (f : B → List C) (g : A → B) (xs : List A)
 seen_each f g [] = refl
 seen_each f g (x ∷ xs) = ap (λ l. f (g x) ++ l) (seen_each f g xs)
 
--- a message's reply right is released, and then its body rights
+-- a message's reply right is released, then its body rights
 pub released_all : (lives : ℕ → Bool) (old mid new : List Effect) (message : Message)
     → mid ≡ old ++ release_of_reply (option_map (seen_right lives) message.reply)
     → new ≡ mid ++ flat_map (λ (r : CarriedRight). release_of (seen_right lives r)) message.rights

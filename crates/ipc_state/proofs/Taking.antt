@@ -1,4 +1,4 @@
--- A port's oldest message is looked at, and taken out.
+-- A port's oldest message is read and removed.
 use Rattle.std.proofs.Common.{◌≡◌, ℕ, ◌<◌, ◌≤◌, ◌++◌, Bool, cond, List, [], ◌∷◌, take, drop, flat_map, length, slice_index_or, MatchOption, Bor, Option, None, Some, option_map, refl, sym, ◌∙◌, ap, arith}
 use Rattle.std.specs.Cmp.{nat_cmp_total}
 use Rattle.std.specs.FinMap.{get, insert, get-insert}
@@ -38,7 +38,7 @@ pub none_released : (messages : List Message) (old : List Effect) → messages �
 none_released messages old none =
     alone old ∙ ap (λ (ms : List Message). old ++ flat_map releases_of (take 1 ms)) (sym none)
 
--- a message is taken out, and then the sequence number counted on
+-- a message is removed, then the sequence number is incremented
 pub taken_counted : (ports : Ports) (serial : ℕ) (numbers : PortNumbers)
     → Some numbers ≡ option_map numbers_of (get ports serial)
     → changed (changed ports serial without_first) serial (with_numbers (counted_on numbers))

@@ -1,4 +1,4 @@
--- A space that was added, and at once gets other names.
+-- A space that was added and immediately changed.
 use Rattle.std.specs.Prelude.{◌≡◌, ℕ, cond, Bool, Some}
 use Rattle.std.proofs.Common.{◌∙◌, ap}
 use Rattle.std.specs.Cmp.{nat_cmp_total}

@@ -1,4 +1,4 @@
--- How many rights a port has in all spaces and in all queues.
+-- The numbers of rights to a port, over all spaces and all queues.
 use Rattle.std.specs.Prelude.{◌≡◌, ℕ, ◌+◌, Bool, ◌&&◌, ◌==◌, cond, List, [], ◌∷◌, count_by, refl}
 use Rattle.std.proofs.Common.{◌∙◌, sym, arith}
 use Rattle.std.proofs.lemmas.List.Sums.{sum_by-cons}
@@ -13,7 +13,7 @@ count_weighs : {X : Type 0} (test : X → Bool) (xs : List X) → count_by test 
 count_weighs test [] = refl
 count_weighs test (x ∷ xs) = sum_by-cons (λ y. cond (test y) 1 0) x xs ∙ omega (arith, count_weighs test xs)
 
--- those that names hold or have as targets, and those that ports carry or have as targets
+-- the count is the sum of the rights in spaces and the rights in ports, each with the targets of requests
 pub counted_apart : (wanted : RightKind) (state : Ipc) (serial : ℕ)
     → total (λ space names. names_weigh (right_weight wanted serial) names) state.spaces + total
     (port_weigh (right_weight wanted serial)) state.ports ≡ count_of wanted state serial

@@ -12,7 +12,7 @@ is_live_port state in_message.Null = true
 is_live_port state in_message.Dead = true
 is_live_port state (in_message.Live serial) = lives state serial
 
--- whether a carried right is to a live port, or to none
+-- true if a carried right is to a live port, or to none
 abbrev pub is_live : Ipc → CarriedRight → Bool
 is_live state carried = is_live_port state carried.port
 
@@ -20,6 +20,6 @@ abbrev pub is_live_reply : Ipc → Option CarriedRight → Bool
 is_live_reply state None = true
 is_live_reply state (Some carried) = is_live state carried
 
--- whether each right of a message is to a live port
+-- true if each right of a message is to a live port, or to none
 abbrev pub carries_live : Ipc → Message → Bool
 carries_live state message = is_live_reply state message.reply && list_all (is_live state) message.rights

@@ -1,4 +1,4 @@
--- The members of sets, found by the places of the sets.
+-- The index of set members by the places of the sets.
 use Rattle.std.proofs.Common.{◌≡◌, ℕ, ◌+◌, ◌^◌, ◌<◌, ◌≤◌, ◌/◌, ◌%◌, ◌==◌, Bool, true, false, cond, nat_lt, Option, None, Some, is_some, option_map, option_and_then, refl, sym, ◌∙◌, ap, subst, arith}
 use Rattle.std.proofs.lemmas.Bool.{eqb-true, ltb-true, ltb-false}
 use Rattle.std.specs.Ordering.{nat_cmp, eq_by_cmp}
@@ -12,24 +12,24 @@ use Rattle.spaces.specs.Passed.{IsIndexed, alike_indexed, nothing_indexed, place
 use Rattle.spaces.specs.Looking.{at_place, entry_in, parts_of, place, place_changed}
 use Rattle.spaces.specs.Slots.{SpaceMap, names_changed}
 
--- the state of these spaces and ports
+-- the state with these spaces and ports
 abbrev pub state_of : SpaceMap → PortTable → Ipc
 state_of spaces table = record { spaces = spaces; ports = table.ports; next = table.next }
 
--- the name of the set that a port is a member of
+-- the name of the set that contains a port
 abbrev pub set_in : Ports → ℕ → Option ℕ
 set_in ports serial = option_and_then (λ (port : PortState). port.set) (get ports serial)
 
--- the place of the set that the port is a member of whose receive right the name of a place holds
+-- the place of the set that contains the port whose receive right the name at a place holds
 abbrev pub set_place : SpaceMap → Ports → ℕ → Option ℕ
 set_place spaces ports q =
     option_map (place (q / 2 ^ 32)) (option_and_then (set_in ports) (at_place received_port spaces q))
 
--- the same for a name of a space that stands for this
+-- the same, for the entry of a name in a space
 abbrev pub set_place_of : Ports → ℕ → Option Entry → Option ℕ
 set_place_of ports space o = option_map (place space) (option_and_then (set_in ports) (option_and_then received_port o))
 
--- what stood under one name of a space, if anything, stands under another
+-- the index after the entry of one name of a space, if there is one, moved to another name
 abbrev pub ArePlacesRenamed : Ports → Tracked (Unit {0}) → Tracked (Unit {0}) → ℕ → ℕ → ℕ → Option Entry → Type 0
 ArePlacesRenamed ports old new space from to None = new ≡ old
 ArePlacesRenamed ports old new space from to (Some entry) = new ≡ record old {
@@ -38,7 +38,7 @@ ArePlacesRenamed ports old new space from to (Some entry) = new ≡ record old {
       (set_place_of ports space (Some entry));
 }
 
--- the members stand at the places of their names
+-- the index maps the place of each member's name to the place of its set
 abbrev pub AreMembers : SpaceMap → Ports → Numbers → Type 0
 AreMembers spaces ports members = IsIndexed (set_place spaces ports) members
 
@@ -93,7 +93,7 @@ changed_members spaces ports members after space name change o small few there c
         (place_moved (set_place spaces ports) (set_place (names_changed spaces space change) ports) members spot
         (set_place_of ports space o) (omega (arith, small, few)) (look names at) are)
 
--- spaces whose names look alike, and ports in the same sets
+-- the index is the same for spaces with the same entries and ports in the same sets
 pub same_members : (spaces other : SpaceMap) (ports others : Ports) (members : Numbers)
     → ((space name : ℕ) → entry_in spaces space name ≡ entry_in other space name)
     → ((serial : ℕ) → set_in ports serial ≡ set_in others serial)
@@ -112,7 +112,7 @@ same_members spaces other ports others members alike sets are =
     in_sets q None = refl
     in_sets q (Some serial) = ap (option_map (place (q / 2 ^ 32))) (sets serial)
 
--- there are no spaces and no members
+-- no spaces and no members
 pub no_members : (spaces : SpaceMap) (ports : Ports) (members : Numbers) → spaces ≡ empty → members ≡ empty
     → AreMembers spaces ports members
 no_members spaces ports members none nothing = nothing_indexed (set_place spaces ports) members (λ q.
@@ -122,14 +122,14 @@ no_members spaces ports members none nothing = nothing_indexed (set_place spaces
     (option_and_then received_port (option_and_then (λ names. get names (q % 2 ^ 32)) n))))
     (get-empty nat_cmp (q / 2 ^ 32))) nothing
 
--- one port goes to another set: the places below `at` are done, the others not yet
+-- the sets' places while a port moves to another set: those below `at` are updated, the others are not
 abbrev pub moving : SpaceMap → Ports → Ports → ℕ → ℕ → Option ℕ
 moving spaces before after at q = cond (nat_lt q at) (set_place spaces after q) (set_place spaces before q)
 
 abbrev pub AreMoving : SpaceMap → Ports → Ports → ℕ → Numbers → Type 0
 AreMoving spaces before after at members = IsIndexed (moving spaces before after at) members
 
--- the ports differ only in the set of one
+-- all ports but one are in the same sets
 abbrev pub DifferAt : ℕ → Ports → Ports → Type 0
 DifferAt serial before after = (other : ℕ) → (other == serial) ≡ false → set_in before other ≡ set_in after other
 
@@ -139,7 +139,7 @@ less_or_not a b P first second =
     [ true ↦ λ (e : _). first e (ltb-true a b e) | false ↦ λ (e : _). second e (ltb-false a b e) ] refl
 
 module _ (spaces : SpaceMap) (before after : Ports) (serial : ℕ) (differ : DifferAt serial before after) where
-  -- a place at which another port, or none, is received looks alike
+  -- the set's place is the same at a place that doesn't hold this port's receive right
   apart_alike : (q : ℕ) → is_number (at_place received_port spaces q) serial ≡ false
       → set_place spaces before q ≡ set_place spaces after q
   apart_alike q apart = go (at_place received_port spaces q) apart
@@ -150,7 +150,7 @@ module _ (spaces : SpaceMap) (before after : Ports) (serial : ℕ) (differ : Dif
       go None off = refl
       go (Some other) off = ap (option_map (place (q / 2 ^ 32))) (differ other off)
 
-  -- a place at which the port is received
+  -- the set's place at a place that holds this port's receive right
   received_place : (ports : Ports) (q : ℕ) → is_number (at_place received_port spaces q) serial ≡ true
       → set_place spaces ports q ≡ option_map (place (q / 2 ^ 32)) (set_in ports serial)
   received_place ports q here = go (at_place received_port spaces q) here
@@ -167,7 +167,7 @@ module _ (spaces : SpaceMap) (before after : Ports) (serial : ℕ) (differ : Dif
       (λ q _. less_or_not q 0 _ (λ _ less. absurd (omega (arith, less)))
       (λ e _. ap (λ (b : Bool). cond b (set_place spaces after q) (set_place spaces before q)) (sym e))) are
 
-  -- places that look alike are passed over
+  -- places that don't hold this port's receive right are skipped
   passed : (at next : ℕ) (members : Numbers) → at ≤ next
       → ((q : ℕ) → at ≤ q → q < next → is_number (at_place received_port spaces q) serial ≡ false)
       → AreMoving spaces before after at members → AreMoving spaces before after next members
@@ -184,7 +184,7 @@ module _ (spaces : SpaceMap) (before after : Ports) (serial : ℕ) (differ : Dif
       (λ also _. ap (λ (b : Bool). cond b (set_place spaces after q) (set_place spaces before q)) (high ∙ sym also))))
       are
 
-  -- the next place at which the port is received is done
+  -- the next place that holds this port's receive right is updated
   pub one_moved : (at next : ℕ) (members then : Numbers) → at ≤ next → next < 2 ^ 64
       → is_number (at_place received_port spaces next) serial ≡ true
       → ((q : ℕ) → at ≤ q → q < next → is_number (at_place received_port spaces q) serial ≡ false)
@@ -225,7 +225,7 @@ module _ (spaces : SpaceMap) (before after : Ports) (serial : ℕ) (differ : Dif
           tied : (k : ℕ) → k ≡ next → eq_by_cmp nat_cmp k next ≡ true
           tied k e = ap (λ (n : ℕ). eq_by_cmp nat_cmp n next) e ∙ same_key next
 
-  -- no place is left
+  -- no such place is left
   pub all_moved : (at : ℕ) (members : Numbers)
       → ((q : ℕ) → at ≤ q → q < 2 ^ 64 → is_number (at_place received_port spaces q) serial ≡ false)
       → AreMoving spaces before after at members → AreMembers spaces after members
@@ -236,7 +236,7 @@ module _ (spaces : SpaceMap) (before after : Ports) (serial : ℕ) (differ : Dif
       (λ high from. ap (λ (b : Bool). cond b (set_place spaces after q) (set_place spaces before q)) high
       ∙ apart_alike q (apart q from fits))) are
 
-  -- nothing has to be done where the port stays in its set
+  -- nothing changes if the port stays in its set
   pub all_stay : (members : Numbers) → set_in before serial ≡ set_in after serial → AreMembers spaces before members
       → AreMembers spaces after members
   all_stay members same are =

@@ -1,4 +1,4 @@
--- The members of a set by their names.
+-- The members of a set in the order of their names.
 use Rattle.std.proofs.Common.{◌≡◌, ℕ, ◌+◌, ◌^◌, ◌<◌, ◌≤◌, ◌/◌, ◌%◌, ◌==◌, Bool, true, false, cond, nat_lt, append-nil, is_some, List, [], ◌∷◌, ◌++◌, map, Option, None, Some, MatchOption, option_map, option_and_then, refl, sym, ◌∙◌, ap, arith}
 use Rattle.std.specs.Prelude.{flat_map, filter}
 use Rattle.std.specs.List.{filter_map, cons_option}
@@ -16,12 +16,12 @@ use Rattle.spaces.specs.Indexes.{AreSmall}
 use Rattle.spaces.specs.Looking.{entry_in, parts_of, place}
 use Rattle.spaces.specs.Slots.{SpaceMap}
 
--- the port whose receive right stands there, if it is a member of the set
+-- the port whose receive right an entry holds, if it is a member of the set
 abbrev pub member_port : Ipc → ℕ → Option Entry → Option ℕ
 member_port state set None = None
 member_port state set (Some entry) = cond (is_member state set entry) (received_port entry) None
 
--- a name with its port, if the port is a member
+-- a name with its port, if the port is a member of the set
 abbrev pub member_at : Ipc → ℕ → ℕ → Option Entry → List (ℕ × ℕ)
 member_at state set name o =
     elim (member_port state set o) as (λ _. List (ℕ × ℕ)) [ None ↦ [] | Some port ↦ (name, port) ∷ [] ]
@@ -29,7 +29,7 @@ member_at state set name o =
 abbrev pub member_under : Ipc → ℕ → ℕ × Entry → List (ℕ × ℕ)
 member_under state set e = member_at state set e.0 (Some e.1)
 
--- the first name, from a given one on, that may be a member's; those before it are none
+-- a name from a given one on, with no member's name in between, or None if no member's name follows
 abbrev pub IsNextPlace : Ipc → ℕ → ℕ → ℕ → Option ℕ → Type 0
 IsNextPlace state space set from found =
     MatchOption found ((q : ℕ) (e : Entry) → from ≤ q → finmap.get (names_in state space) q ≡ Some e
@@ -67,7 +67,7 @@ one_serial e rest es same true (Some serial) at =
     ∙ sym (ap (λ (o : Option ℕ). cons_option o (filter_map (λ f. received_port f.1) es)) at)
 one_serial e rest es same false o at = same
 
--- the names of the members, and their ports
+-- the names of the members, without their ports
 pub member_names : (state : Ipc) (set : ℕ) (es : List (ℕ × Entry))
     → map (λ m. m.0) (flat_map (member_under state set) es) ≡ map (λ e. e.0) (filter (λ e. is_member state set e.1) es)
 member_names state set [] = refl
@@ -144,7 +144,7 @@ module _ (state : Ipc) (set : ℕ) (names : Names) (at name : ℕ) (order : at �
           (below_none (name + 1) name (member_under state set (name, v)) (omega arith))
           ∙ append-nil (member_under state set (name, v)))) before (λ q w more _. beyond q w more)
 
--- A name whose place isn't listed at the set's place is no member's.
+-- A name whose place isn't listed for the set is no member's.
 module _ (spaces : SpaceMap) (table : PortTable) (space set q : ℕ) (e : Entry) where
   abbrev now : Ipc
   now = state_of spaces table
@@ -192,7 +192,7 @@ module _ (spaces : SpaceMap) (table : PortTable) (space set q : ℕ) (e : Entry)
       (by_port (received_port e) (sym (ap (λ (o : Option ℕ). is_number o (place space set)) (stood small there))
       ∙ apart))
 
--- between two names, if no place is listed at the set's place, no name is a member's
+-- if no place between two names is listed for the set, no name between them is a member's
 pub none_between : (spaces : SpaceMap) (table : PortTable) (members : Numbers) (space set from until : ℕ)
     → space < 2 ^ 32 → AreMembers spaces table.ports members → AreSmall spaces
     → ((p : ℕ) → place space from ≤ p → p < until → p < 2 ^ 64 → stands_at members (place space set) p ≡ false)
@@ -205,7 +205,7 @@ none_between spaces table members space set from until few are small none q e mo
     no_member spaces table space set q e word there
     (sym (are (place space set) (place space q) fits) ∙ none (place space q) (omega (arith, more)) less fits)
 
--- The name that the indexes give is the first such name.
+-- The name that the index lists first is the first such name.
 module _ (spaces : SpaceMap) (table : PortTable) (members : Numbers) (space set from : ℕ) (few : space < 2 ^ 32)
     (are : AreMembers spaces table.ports members) (small : AreSmall spaces) where
   abbrev state : Ipc

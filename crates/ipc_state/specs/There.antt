@@ -1,4 +1,4 @@
--- The names of an existing space are changed.
+-- Changes of the names of an existing space.
 use Rattle.std.specs.Prelude.{◌≡◌, ℕ, Option, None, Some, IsSome, option_and_then}
 use Rattle.std.proofs.Common.{refl, sym}
 use Rattle.std.specs.Ordering.{nat_cmp}
@@ -25,17 +25,17 @@ module _ (state : Ipc) (space : ℕ) (there : IsSome (finmap.get state.spaces sp
       → with_changed state space change ≡ with_names state space (change (names_in state space))
   changed_there change = is_there state space change (finmap.get state.spaces space) there
 
-  -- a name that is put
+  -- a name is added or replaced
   pub entry_put : (name : ℕ) (entry : Entry)
       → with_entry state space name entry ≡ with_names state space (finmap.insert (names_in state space) name entry)
   entry_put name entry = changed_there (λ (names : Names). finmap.insert names name entry)
 
-  -- a name that goes
+  -- a name is removed
   pub name_gone : (name : ℕ) → without_name state space name
       ≡ with_names state space (finmap.remove (names_in state space) name)
   name_gone name = changed_there (λ (names : Names). finmap.remove names name)
 
--- what stands under a name, whether its space exists or not
+-- the entry of a name, whether its space exists or not
 pub entry_named : (state : Ipc) (space name : ℕ) → entry_at state space name ≡ finmap.get (names_in state space) name
 entry_named state space name = go (finmap.get state.spaces space)
   where

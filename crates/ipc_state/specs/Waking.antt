@@ -1,4 +1,4 @@
--- Which places changes name, so that a waiting call is woken.
+-- The places that a change has to report, so that waiting calls are woken.
 use Rattle.std.specs.Prelude.{◌≡◌, ◌⊎◌, ℕ, ◌<◌, ◌/◌, ◌^◌, Bool, true, false, [], Option, None, Some, option_map}
 use Rattle.std.specs.FinMap as finmap
 use Rattle.ipc_model.specs.declared.port.PortState.{PortState}
@@ -11,26 +11,26 @@ use Rattle.spaces.specs.Slots.{SpaceMap}
 use Rattle.waiting.specs.Places.{place_of_port}
 use Rattle.waiting.specs.Waiting.{IsQuiet, occupancy}
 
--- a port lives if it lived, holds as many messages as before, with the same limit, and is in the same set
+-- the port is live in both states or in neither; if live, it has as many messages, the same limit and the same set
 abbrev pub same_occupancy : Ports → Ports → ℕ → Type 0
 same_occupancy before current serial =
     option_map occupancy (finmap.get current serial) ≡ option_map occupancy (finmap.get before serial)
 
--- a name is named, and so is the set of the port whose receive right it holds
+-- a name is reported, and so is the set of the port whose receive right it holds
 pub record IsSetListed (named : ℕ → Bool) (spaces : SpaceMap) (ports : Ports) (number : ℕ) : Type 0 where
   pub itself : named number ≡ true
   pub set : (other : ℕ) → set_place spaces ports number ≡ Some other → named other ≡ true
 
--- the place of a port's receive right is named where a receive there may find something, and so is the port's set
+-- the place of a port's receive right is reported if a receive there may succeed, and so is the port's set
 pub record IsListedFor (named : ℕ → Bool) (set : Option ℕ) (has_messages : Bool) (number : ℕ) : Type 0 where
   pub alone : ((set ≡ None) × (has_messages ≡ false)) ⊎ (named number ≡ true)
   pub in_set : (other : ℕ) → set ≡ Some other → (has_messages ≡ false) ⊎ (named (place (number / 2 ^ 32) other) ≡ true)
 
--- the queue of a port that lives is full
+-- the queue of a live port is full
 abbrev pub is_full_in : Ports → ℕ → Bool
 is_full_in ports serial = is_full (record { spaces = finmap.empty; ports = ports; next = 0 }) serial
 
--- a port is named if a send may find room there, and so are the places of its receives if one may find something
+-- a port is reported if a send to it may succeed, and so are the places of its receives if one may succeed
 pub record IsPortListed (named : ℕ → Bool) (spaces : SpaceMap) (ports : Ports) (serial : ℕ) : Type 0 where
   pub room : (is_full_in ports serial ≡ true) ⊎ (named (place_of_port serial) ≡ true)
   pub alone : (number : ℕ) (port : PortState) → number < 2 ^ 64 → at_place received_port spaces number ≡ Some serial

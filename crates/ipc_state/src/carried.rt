@@ -16,15 +16,15 @@ use ports::{PortNumbers, Ports};
 use std::alloc::AllocError;
 
 impl IpcState {
-    /// How many messages a port has, none if it is dead.
+    /// Returns the number of messages in a port's queue, or 0 if it is dead.
     pub fn message_count(&self, serial: u64) -> u32
         ensures { result ≡ length (messages_at self.now.current.ports serial) }
     {
         self.ports.message_count(serial)
     }
 
-    /// Puts a message at the end of a port's queue, whatever the limit; if the port is dead, the message is dropped.
-    /// Its rights are to live ports. If an allocation fails, the changes are rolled back.
+    /// Appends a message to a port's queue, regardless of the limit, or drops it if the port is dead. Its rights are to
+    /// live ports. If an allocation fails, the changes are rolled back.
     pub fn queue_message(&mut self, serial: u64, message: Message) -> Result<(), AllocError>
         requires live { carries_live self.old.current message ≡ true }
         ensures ok { OnOk result (self.new ≡ record self.old { current = queued self.old.current serial message }) }
@@ -40,14 +40,14 @@ impl IpcState {
         }
     }
 
-    /// The port in whose queue the receive right of a port travels, if it does.
+    /// Returns the port whose queue contains the receive right of a port, if there is one.
     pub fn carrier(&self, serial: u64) -> Option<u64>
         ensures { result ≡ carrier_of self.now.current serial }
     {
         self.ports.carrier(serial)
     }
 
-    /// Adds the releases of the rights of a port's messages, oldest message first.
+    /// Appends the releases of the rights of a port's messages, oldest message first.
     pub fn releases(&self, serial: u64, effects: &mut Effects) -> Result<(), AllocError>
         ensures { OnOk result (effects.new ≡ effects.old
             ++ flat_map releases_of (messages_at self.now.current.ports serial)) }
@@ -60,22 +60,22 @@ impl IpcState {
         Ok(())
     }
 
-    /// The oldest message of a port as it was sent, if it has one. `seen` says what its rights are now.
+    /// Returns the oldest message of a port as it was sent, if there is one. `seen` gives its rights as they are now.
     pub fn oldest(&self, serial: u64) -> Option<&Message>
         ensures { IsOldest (lives_in self.now.current.ports) (messages_at self.now.current.ports serial) result }
     {
         oldest_in(&self.ports, serial)
     }
 
-    /// What a right of a message as it was sent is now: `MACH_PORT_DEAD` if its port has died.
+    /// Returns a right of a sent message as it is now: with `MACH_PORT_DEAD` if its port has died.
     pub fn seen(&self, carried: CarriedRight) -> CarriedRight
         ensures { result ≡ seen_right (lives_in self.now.current.ports) carried }
     {
         self.ports.seen(carried)
     }
 
-    /// Adds the releases of the reply right and the body rights of a port's oldest message, if it has one, in this
-    /// order.
+    /// Appends the release of the reply right of a port's oldest message, then the releases of its body rights, if
+    /// there is a message.
     pub fn release_oldest(&self, serial: u64, effects: &mut Effects) -> Result<(), AllocError>
         ensures { OnOk result (effects.new ≡ effects.old
             ++ flat_map releases_of (take 1 (messages_at self.now.current.ports serial))) }
@@ -83,8 +83,8 @@ impl IpcState {
         release_oldest_in(&self.ports, serial, effects)
     }
 
-    /// Takes the oldest message of a port out of its queue, if the port lives, and increments its sequence number. If
-    /// an allocation fails, the changes are rolled back.
+    /// Removes the oldest message from a port's queue, if the port is live, and increments its sequence number. If an
+    /// allocation fails, the changes are rolled back.
     pub fn take_message(&mut self, serial: u64) -> Result<(), AllocError>
         ensures ok { OnOk result (self.new ≡ record self.old { current = without_oldest self.old.current serial }) }
         ensures err { OnErr result (self.new ≡ at_rest self.old.before) }
@@ -101,14 +101,14 @@ impl IpcState {
     }
 }
 
-/// The oldest message of a port as it was sent, if it has one.
+/// Returns the oldest message of a port as it was sent, if there is one.
 fn oldest_in(ports: &Ports, serial: u64) -> Option<&Message>
     ensures { IsOldest (lives_in ports.now.current.ports) (messages_at ports.now.current.ports serial) result }
 {
     ports.message_as_sent(serial, 0)
 }
 
-/// Adds the releases of a port's oldest message, if it has one.
+/// Appends the releases of a port's oldest message, if there is one.
 fn release_oldest_in(ports: &Ports, serial: u64, effects: &mut Effects) -> Result<(), AllocError>
     ensures { OnOk result (effects.new ≡ effects.old
         ++ flat_map releases_of (take 1 (messages_at ports.now.current.ports serial))) }
@@ -120,7 +120,7 @@ fn release_oldest_in(ports: &Ports, serial: u64, effects: &mut Effects) -> Resul
     Ok(())
 }
 
-/// Takes the oldest message of a live port, and increments its sequence number.
+/// Removes the oldest message of a live port, and increments its sequence number.
 fn take_and_count(ports: &mut Ports, serial: u64) -> Result<(), AllocError>
     ensures ok { OnOk result (ports.new
         ≡ record ports.old {
@@ -147,14 +147,14 @@ fn count_on(numbers: PortNumbers) -> PortNumbers
     }
 }
 
-/// The number after a sequence number. The last one is followed by 0.
+/// Returns the successor of a sequence number. The last one is followed by 0.
 fn next_number(number: u32) -> u32
     ensures { result ≡ next_count number }
 {
     number.wrapping_add(1)
 }
 
-/// Adds the releases of a message's reply right and body rights whose ports still live.
+/// Appends the releases of a message's reply right and of those body rights whose ports are still live.
 #[tactic(auto, using(crate::proofs::Releasing::released_all))]
 fn release(ports: &Ports, message: &Message, effects: &mut Effects) -> Result<(), AllocError>
     ensures { OnOk result (effects.new ≡ effects.old

@@ -1,5 +1,5 @@
 //! Walks over the state, and copies of it: spaces and live ports by their numbers, names in their order, and a port
-//! with all that it has.
+//! with all of its state.
 ghost use Rattle.std.specs.Prelude.{◌≡◌, ◌<◌, ◌-◌, ◌^◌, IfOk, IfSome, map as mapped, option_map};
 ghost use Rattle.std.specs.FinMap as map;
 ghost use Rattle.ipc_model.specs.calls.PortCalls.{names_in};
@@ -13,14 +13,14 @@ use ports::Ports;
 use std::alloc::{AllocError, Global};
 
 impl IpcState {
-    /// The least number from `from` on that a space has.
+    /// Returns the least number from `from` on that belongs to a space.
     pub fn next_space(&self, from: u64) -> Option<u32>
         ensures { IsNextSpace self.now.current.spaces from result }
     {
         self.spaces.next_space(from)
     }
 
-    /// The least name of a space from `from` on, with what it stands for.
+    /// Returns the least name of a space from `from` on, with its entry.
     pub fn next_entry(&self, space: u32, from: u64) -> Option<(u32, Entry)>
         ensures next { IsNextEntry (names_in self.now.current space) from result }
         ensures fits { IfSome result (λ e. e.0 < 2 ^ 32) }
@@ -28,7 +28,7 @@ impl IpcState {
         self.spaces.next_entry(space, from)
     }
 
-    /// The least serial from `from` on under which a port lives.
+    /// Returns the least serial from `from` on that belongs to a live port.
     pub fn next_port(&self, from: u64) -> Option<u64>
         ensures next { IsNextPort self.now.current.ports from result }
         ensures fits { IfSome result (λ serial. serial < 2 ^ 64 - 1) }
@@ -36,7 +36,7 @@ impl IpcState {
         self.ports.next_port(from)
     }
 
-    /// A copy of all that a port has, if it lives, with the messages in its queue as they are seen.
+    /// Returns a copy of a port's whole state, if it is live. In its messages `MACH_PORT_DEAD` replaces dead ports.
     pub fn port(&self, alloc: Global, serial: u64) -> Result<Option<PortState>, AllocError>
         ensures { IfOk result (λ port. port ≡ map.get self.now.current.ports serial) }
     {
@@ -44,7 +44,7 @@ impl IpcState {
     }
 }
 
-/// A copy of all that a port has, if it lives.
+/// Returns a copy of a port's whole state, if it is live.
 fn copy_of_port(alloc: Global, ports: &Ports, serial: u64) -> Result<Option<PortState>, AllocError>
     ensures { IfOk result (λ port. port ≡ map.get ports.now.current.ports serial) }
 {
@@ -63,7 +63,7 @@ fn copy_of_port(alloc: Global, ports: &Ports, serial: u64) -> Result<Option<Port
     }))
 }
 
-/// Copies of a port's messages as they are seen, oldest first.
+/// Copies a port's messages, oldest first, with `MACH_PORT_DEAD` in place of dead ports.
 fn copy_of_messages(alloc: Global, ports: &Ports, serial: u64) -> Result<Vec<Message>, AllocError>
     ensures { IfOk result (λ copy. copy.items ≡ messages_at ports.now.current.ports serial) }
 {
@@ -76,7 +76,7 @@ fn copy_of_messages(alloc: Global, ports: &Ports, serial: u64) -> Result<Vec<Mes
     Ok(copy)
 }
 
-/// A copy of a message as it is seen: with `MACH_PORT_DEAD` in place of ports that have died.
+/// Copies a message, with `MACH_PORT_DEAD` in place of dead ports.
 fn copy_as_seen(alloc: Global, ports: &Ports, message: &Message) -> Result<Message, AllocError>
     ensures { IfOk result (λ copy. copy ≡ seen_message (lives_in ports.now.current.ports) message.now) }
 {

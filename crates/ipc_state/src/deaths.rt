@@ -1,4 +1,4 @@
-//! What a port's death changes, and the notices that it sends.
+//! The effects of a port's death on the state, and its notices.
 ghost use Rattle.std.specs.Prelude.{◌≡◌, ◌++◌, None, OnOk, OnErr, flat_map};
 ghost use Rattle.std.specs.FinMap as map;
 ghost use Rattle.ipc_model.specs.effects.Effects.{after_death, dead_name_notices, dead_name_of_entry, entry_after_death, map_values, port_after_death};
@@ -13,9 +13,9 @@ use spaces::Spaces;
 use std::alloc::AllocError;
 
 impl IpcState {
-    /// A port dies: names of it become dead names, each with a dead-name notice if one was requested, by space and
-    /// name; carried rights to it become `MACH_PORT_DEAD`, and requests whose target it is are removed. If an
-    /// allocation fails, the changes are rolled back.
+    /// Removes a dying port. Names of it become dead names, each with a dead-name notice if one was requested, in the
+    /// order of space and name. Carried rights to it become `MACH_PORT_DEAD`, and requests whose target it is are
+    /// removed. If an allocation fails, the changes are rolled back.
     pub fn bury(&mut self, serial: u64, effects: &mut Effects) -> Result<(), AllocError>
         ensures ok { OnOk result (self.new ≡ record self.old { current = after_death self.old.current serial }) }
         ensures notified { OnOk result (effects.new ≡ effects.old ++ dead_name_notices self.old.current serial) }
@@ -26,7 +26,7 @@ impl IpcState {
         Ok(())
     }
 
-    /// A port leaves its set. If an allocation fails, the changes are rolled back.
+    /// Removes a port from its set. If an allocation fails, the changes are rolled back.
     fn leave_set(&mut self, serial: u64) -> Result<(), AllocError>
         ensures ok { OnOk result (self.new
             ≡ record self.old { current = with_port self.old.current serial (λ port. record port { set = None }) }) }
@@ -42,7 +42,7 @@ impl IpcState {
         self.set_numbers(serial, outside)
     }
 
-    /// A port dies that is in no set.
+    /// Removes a dying port that is in no set.
     fn bury_outside(&mut self, serial: u64, effects: &mut Effects) -> Result<(), AllocError>
         requires outside { set_in self.old.current.ports serial ≡ None }
         ensures ok { OnOk result (self.new ≡ record self.old { current = after_death self.old.current serial }) }

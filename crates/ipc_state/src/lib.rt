@@ -1,5 +1,5 @@
-//! The running state: the spaces with their names, the live ports, and the serial that the next port gets. Its changes
-//! are committed or rolled back.
+//! The running state: the spaces with their names, the live ports, and the serial of the next port. Its changes are
+//! committed or rolled back.
 #![tactic(auto)]
 
 mod carried;

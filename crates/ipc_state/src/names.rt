@@ -18,28 +18,28 @@ use std::alloc::{AllocError, Global};
 
 /// Queries on the names of a space. A space that doesn't exist has none.
 impl IpcState {
-    /// Whether a space exists.
+    /// Returns true if a space exists.
     pub fn has_space(&self, space: u32) -> bool
         ensures { result ≡ is_some (map.get self.now.current.spaces space) }
     {
         self.spaces.contains(space)
     }
 
-    /// How many names a space has in use.
+    /// Returns the number of names that a space has in use.
     pub fn name_count(&self, space: u32) -> usize
         ensures { result ≡ map.len (names_in self.now.current space) }
     {
         self.spaces.name_count(space)
     }
 
-    /// The names that a space has in use, in ascending order, each with what it stands for.
+    /// Returns the names that a space has in use, in ascending order, each with its entry.
     pub fn entries(&self, alloc: Global, space: u32) -> Result<Vec<(u32, Entry)>, AllocError>
         ensures { IfOk result (λ entries. entries.items ≡ map.entries (names_in self.now.current space)) }
     {
         self.spaces.entries(alloc, space)
     }
 
-    /// What a name of a space stands for, if it is in use.
+    /// Returns the entry of a name in a space, if it is in use.
     pub fn entry(&self, space: u32, name: u32) -> Option<Entry>
         ensures entry { result ≡ entry_at self.now.current space name }
         ensures named { result ≡ map.get (names_in self.now.current space) name }
@@ -48,29 +48,29 @@ impl IpcState {
         self.spaces.entry(space, name)
     }
 
-    /// The name under which a space holds a send or receive right of a port, if it does.
+    /// Returns the name under which a space holds a send or receive right of a port, if it holds one.
     pub fn name_of_port(&self, space: u32, serial: u64) -> Option<u32>
         ensures { result ≡ name_of_port (names_in self.now.current space) serial }
     {
         self.spaces.name_of_port(space, serial)
     }
 
-    /// Whether a space holds a send or receive right of a port under a name other than this one.
+    /// Returns true if a space holds a send or receive right of a port under another name than this one.
     pub fn stands_elsewhere(&self, space: u32, name: u32, serial: u64) -> bool
         ensures { result ≡ stands_elsewhere (names_in self.now.current space) name serial }
     {
         self.spaces.stands_elsewhere(space, name, serial)
     }
 
-    /// Whether a name may be given out in a space: it is neither `MACH_PORT_NULL` nor `MACH_PORT_DEAD`, and isn't in
-    /// use.
+    /// Returns true if a name may be given to a right in a space: it is neither `MACH_PORT_NULL` nor `MACH_PORT_DEAD`,
+    /// and isn't in use.
     pub fn is_unused(&self, space: u32, name: u32) -> bool
         ensures { IsTrue result ↔ IsUnused (names_in self.now.current space) name }
     {
         self.spaces.is_unused(space, name)
     }
 
-    /// The least name from `FIRST_NAME` on that a space doesn't use. There always is one.
+    /// Returns the least name from `FIRST_NAME` on that a space doesn't use. There is always one.
     pub fn free_name(&self, space: u32) -> u32
         ensures unused { IsUnused (names_in self.now.current space) result }
         ensures from { FIRST_NAME ≤ result }
@@ -82,7 +82,7 @@ impl IpcState {
 
 /// Changes of the names of a space.
 impl IpcState {
-    /// Makes a name of a space stand for this, if the space exists. If an allocation fails, the changes are rolled
+    /// Replaces the entry of a name in a space, if the space exists. If an allocation fails, the changes are rolled
     /// back.
     pub fn put_name(&mut self, space: u32, name: u32, entry: Entry) -> Result<(), AllocError>
         requires room { entry_at self.old.current space name ≡ None
@@ -113,7 +113,7 @@ impl IpcState {
         }
     }
 
-    /// Takes a name of a space out of use. If an allocation fails, the changes are rolled back.
+    /// Removes a name from a space. If an allocation fails, the changes are rolled back.
     pub fn remove_name(&mut self, space: u32, name: u32) -> Result<(), AllocError>
         ensures ok { OnOk result (self.new ≡ record self.old { current = without_name self.old.current space name }) }
         ensures err { OnErr result (self.new ≡ at_rest self.old.before) }
@@ -138,8 +138,8 @@ impl IpcState {
         }
     }
 
-    /// Makes what stands under one name of a space, if anything does, stand under another. If an allocation fails, the
-    /// changes are rolled back.
+    /// Moves the entry of one name of a space, if there is one, to another name. If an allocation fails, the changes
+    /// are rolled back.
     pub fn rename(&mut self, space: u32, from: u32, to: u32) -> Result<(), AllocError>
         requires unused { entry_at self.old.current space to ≡ None }
         ensures ok { OnOk result (self.new
@@ -167,7 +167,7 @@ impl IpcState {
     }
 }
 
-/// The target of a name's dead-name request, if there is a request.
+/// Returns the target of a name's dead-name request, if there is a request.
 pub fn request_of(entry: Entry) -> Option<u64>
     ensures { result ≡ request_of entry }
 {

@@ -1,4 +1,4 @@
-//! The live ports: queries, and changes of what they have besides their queues.
+//! The live ports: queries and changes of their numbers, which are all of their state besides the queues.
 ghost use Rattle.std.specs.Prelude.{◌≡◌, ◌+◌, ◌<◌, ◌≤◌, ◌/◌, ◌^◌, false, None, Some, OnOk, OnErr, option_map};
 ghost use Rattle.std.specs.FinMap as map;
 ghost use Rattle.ipc_model.specs.state.Ipc.{lives, new_port, ports_are_used_up, with_port};
@@ -15,42 +15,42 @@ use spaces::{PlaceIndex, Spaces};
 use std::alloc::AllocError;
 
 impl IpcState {
-    /// How many ports live.
+    /// Returns the number of live ports.
     pub fn port_count(&self) -> usize
         ensures { result ≡ map.len self.now.current.ports }
     {
         self.ports.len()
     }
 
-    /// Whether a port lives.
+    /// Returns true if a port is live.
     pub fn has_port(&self, serial: u64) -> bool
         ensures { result ≡ lives self.now.current serial }
     {
         self.ports.contains(serial)
     }
 
-    /// What a port has besides its queue, if it lives.
+    /// Returns the numbers of a port, if it is live.
     pub fn numbers(&self, serial: u64) -> Option<PortNumbers>
         ensures { result ≡ option_map numbers_of (map.get self.now.current.ports serial) }
     {
         self.ports.numbers(serial)
     }
 
-    /// The serial that the next port gets.
+    /// Returns the serial of the next port.
     pub fn next_serial(&self) -> u64
         ensures { result ≡ self.now.current.next }
     {
         self.ports.next_serial()
     }
 
-    /// Whether no further port can be made: as many live as may, or the serials are used up.
+    /// Returns true if no further port can be made: no more ports may be live, or the serials are used up.
     pub fn is_out_of_ports(&self) -> bool
         ensures { result ≡ ports_are_used_up self.now.current }
     {
         self.ports.is_full() || self.ports.next_serial() == u64::MAX
     }
 
-    /// Adds a new port, which gets the next serial. If an allocation fails, the changes are rolled back.
+    /// Adds a port with the next serial. If an allocation fails, the changes are rolled back.
     pub fn add_port(&mut self) -> Result<(), AllocError>
         requires left { ports_are_used_up self.old.current ≡ false }
         requires fresh { map.get self.old.current.ports self.old.current.next ≡ None }
@@ -73,7 +73,7 @@ impl IpcState {
         }
     }
 
-    /// Sets the serial that the next port gets, one that was never given before. It takes no memory.
+    /// Sets the serial of the next port, which was never used before. It allocates nothing.
     pub fn set_next_serial(&mut self, serial: u64)
         requires { self.old.current.next ≤ serial }
         ensures { self.new ≡ record self.old { current = record self.old.current { next = serial } } }
@@ -81,7 +81,7 @@ impl IpcState {
         self.ports.set_next_serial(serial);
     }
 
-    /// Changes what a live port has besides its queue. If an allocation fails, the changes are rolled back.
+    /// Replaces the numbers of a live port. If an allocation fails, the changes are rolled back.
     pub fn set_numbers(&mut self, serial: u64, numbers: PortNumbers) -> Result<(), AllocError>
         ensures ok { OnOk result (self.new
             ≡ record self.old { current = with_port self.old.current serial (with_numbers numbers) }) }
@@ -109,7 +109,7 @@ impl IpcState {
     }
 }
 
-/// Replaces a live port's numbers, and its place among the members with them.
+/// Replaces a live port's numbers, and its place in the index of members with them.
 fn replace_numbers(
     spaces: &Spaces,
     ports: &mut Ports,
@@ -134,7 +134,7 @@ fn replace_numbers(
     Ok(())
 }
 
-/// Moves a port from one set to another, and its place among the members with it.
+/// Moves a port from one set to another, and its place in the index of members with it.
 fn move_places(
     spaces: &Spaces,
     members: &mut PlaceIndex,
@@ -162,7 +162,7 @@ fn move_places(
     Ok(())
 }
 
-/// Puts the place of another set of its space at the place of a name.
+/// Replaces the set's place that the index lists for a name.
 fn move_place(
     members: &mut PlaceIndex,
     name: u64,

@@ -1,4 +1,4 @@
-//! The members of sets, found by the places of the sets.
+//! The index of set members: the place of each member's name, with the place of its set.
 ghost use Rattle.std.specs.Prelude.{◌≡◌, ◌++◌, ◌<◌, Some, IfOk, OnOk, flat_map, option_and_then, option_map};
 ghost use Rattle.std.specs.FinMap as map;
 ghost use Rattle.ipc_model.specs.calls.PortCalls.{names_in};
@@ -13,8 +13,8 @@ use ports::Ports;
 use std::alloc::{AllocError, Global};
 
 impl IpcState {
-    /// The members of a set of a space, in ascending order of names: each name with the port whose receive right it
-    /// holds.
+    /// Returns the members of a set of a space, in ascending order of names: each name with the port whose receive
+    /// right it holds.
     pub fn members(
         &self,
         alloc: Global,
@@ -33,7 +33,7 @@ impl IpcState {
         Ok(members)
     }
 
-    /// The first name from `from` on that the index lists as a member of the set.
+    /// Returns the first name from `from` on that the index lists as a member of the set.
     fn next_place(&self, space: u32, set: u32, from: u64) -> Option<u32>
         ensures { IsNextPlace self.now.current space set from result }
     {
@@ -51,7 +51,7 @@ impl IpcState {
         Some((found % (1 << 32)) as u32)
     }
 
-    /// Adds a name, with the port whose receive right it holds, if the port is a member of the set.
+    /// Appends a name and its port, if the name holds the receive right of a member of the set.
     fn add_member(
         &self,
         space: u32,
@@ -68,7 +68,7 @@ impl IpcState {
         }
     }
 
-    /// The port whose receive right a name with this entry holds, if the port is a member of the set.
+    /// Returns the port whose receive right an entry holds, if the port is a member of the set.
     fn member_port(&self, set: u32, entry: Option<Entry>) -> Option<u64>
         ensures { result ≡ member_port self.now.current set entry }
     {
@@ -81,15 +81,14 @@ impl IpcState {
     }
 }
 
-/// A name in a space as one number.
+/// Returns the place of a name: space and name as one number.
 pub(crate) fn place(space: u32, name: u32) -> u64
     ensures { result ≡ place space name }
 {
     u64::from(space) * (1 << 32) + u64::from(name)
 }
 
-/// The place of the set of the port whose receive right a name with this entry holds, if there is such a port and it is
-/// in a set.
+/// Returns the place of the set that contains the port whose receive right an entry holds.
 pub(crate) fn set_place(ports: &Ports, space: u32, entry: Option<Entry>) -> Option<u64>
     ensures { result ≡ set_place_of ports.now.current.ports space entry }
 {
@@ -97,7 +96,7 @@ pub(crate) fn set_place(ports: &Ports, space: u32, entry: Option<Entry>) -> Opti
     place_in(space, set_of(ports, serial))
 }
 
-/// The port whose receive right a name with this entry holds.
+/// Returns the port whose receive right an entry holds.
 fn received(entry: Option<Entry>) -> Option<u64>
     ensures { result ≡ option_and_then received_port entry }
 {
@@ -107,7 +106,7 @@ fn received(entry: Option<Entry>) -> Option<u64>
     }
 }
 
-/// The name of the set that a port is a member of.
+/// Returns the name of the set that contains a port.
 fn set_of(ports: &Ports, serial: u64) -> Option<u32>
     ensures { result ≡ set_in ports.now.current.ports serial }
 {
@@ -117,7 +116,7 @@ fn set_of(ports: &Ports, serial: u64) -> Option<u32>
     }
 }
 
-/// The place of a set in a space.
+/// Returns the place of a set in a space.
 pub(crate) fn place_in(space: u32, set: Option<u32>) -> Option<u64>
     ensures { result ≡ option_map (place space) set }
 {

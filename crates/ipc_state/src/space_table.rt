@@ -10,21 +10,21 @@ use std::alloc::AllocError;
 
 /// The spaces: queries and changes.
 impl IpcState {
-    /// How many spaces there are.
+    /// Returns the number of spaces.
     pub fn space_count(&self) -> usize
         ensures { result ≡ map.len self.now.current.spaces }
     {
         self.spaces.len()
     }
 
-    /// Whether a space may be made under a number: it is one from 1 to `MAX_SPACES`, and no space has it.
+    /// Returns true if a space may be added under a number: it is from 1 to `MAX_SPACES`, and unused.
     pub fn is_unused_space(&self, number: u32) -> bool
         ensures { IsTrue result ↔ IsUnusedSpace self.now.current number }
     {
         0 < number && number as usize <= MAX_SPACES && !self.spaces.contains(number)
     }
 
-    /// The least number that no space has. There is one while there are fewer spaces than allowed.
+    /// Returns the least unused number of a space. There is one while there are fewer spaces than `MAX_SPACES`.
     pub fn free_space(&self) -> u32
         requires room { map.len self.now.current.spaces < MAX_SPACES }
         ensures unused { IsUnusedSpace self.now.current result }
@@ -33,8 +33,7 @@ impl IpcState {
         self.spaces.free_number()
     }
 
-    /// Makes a space without names under a number that no space has. If an allocation fails, the changes are rolled
-    /// back.
+    /// Adds a space without names under an unused number. If an allocation fails, the changes are rolled back.
     pub fn add_space(&mut self, number: u32) -> Result<(), AllocError>
         requires unused { map.get self.old.current.spaces number ≡ None }
         requires room { map.len self.old.current.spaces < MAX_SPACES }
@@ -61,7 +60,7 @@ impl IpcState {
             }) }
         ensures err { OnErr result (self.new ≡ at_rest self.old.before) }
     {
-        // Upward: a name that is gone leaves a mark, and a walk from the first name would pass over it again.
+        // The walk ascends: each removed name leaves a mark, which a walk from the start would pass again.
         let mut at: u64 = 0;
         while let Some((name, _)) = self.spaces.next_entry(number, at) {
             self.remove_name(number, name)?;

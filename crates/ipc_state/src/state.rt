@@ -10,18 +10,18 @@ use spaces::{PlaceIndex, Spaces};
 use std::alloc::{AllocError, Global};
 use std::marker::Model;
 
-/// The spaces, the live ports, and the serial that the next port gets, whose changes are committed or rolled back.
-/// Contracts see the state of the abstract specification as it was at the last commit or rollback, and as it is.
+/// The spaces, the live ports and the serial of the next port. Changes are committed or rolled back. Contracts see two
+/// states of the abstract specification: at the last commit or rollback, and the current one.
 ///
 /// A change whose allocation fails rolls all changes back.
 pub struct IpcState {
     pub(crate) spaces: Spaces,
     pub(crate) ports: Ports,
-    /// At the place of each name that holds a member's receive right, the place of the set.
+    /// The place of each name that holds a member's receive right, mapped to the place of its set.
     pub(crate) members: PlaceIndex,
 }
 
-// Written out, so that proofs above know one function and not its parts.
+// Written by hand, so that proofs of the crates above depend on one function instead of its parts.
 impl Drop for IpcState {
     fn drop(self) {
         let IpcState {
@@ -54,7 +54,7 @@ impl Model for IpcState {
 }
 
 impl IpcState {
-    /// No spaces and no ports; the first port gets the serial 1. It takes no memory.
+    /// Creates a state without spaces and ports. The first port gets the serial 1. It allocates nothing.
     pub fn new(alloc: Global) -> Self
         ensures { result ≡ at_rest (record { spaces = map.empty; ports = map.empty; next = 1 }) }
     {
@@ -65,7 +65,7 @@ impl IpcState {
         }
     }
 
-    /// The state of a new store: space 1 without names, and no port.
+    /// Creates the state of a new store: space 1 without names, and no port.
     pub fn opening(alloc: Global) -> Result<Self, AllocError>
         ensures { IfOk result (λ state. state ≡ at_rest opening_ipc) }
     {
@@ -82,7 +82,7 @@ impl IpcState {
         }
     }
 
-    /// Commits the changes. It takes no memory.
+    /// Commits the changes. It allocates nothing.
     pub fn commit(&mut self)
         ensures { self.new ≡ at_rest self.old.current }
     {
@@ -91,7 +91,7 @@ impl IpcState {
         self.members.commit();
     }
 
-    /// Rolls the changes back. It takes no memory.
+    /// Rolls the changes back. It allocates nothing.
     pub fn roll_back(&mut self)
         ensures { self.new ≡ at_rest self.old.before }
     {
@@ -100,7 +100,7 @@ impl IpcState {
         self.members.roll_back();
     }
 
-    /// Shows that no queue holds more messages than a word counts. It does nothing else.
+    /// Proves that the number of messages in each queue fits a `u32`. It does nothing else.
     pub fn show_queues_short(&self)
         ensures { ShortQueues self.now.current }
     {

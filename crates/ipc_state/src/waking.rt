@@ -1,4 +1,4 @@
-//! The places at which waiting calls may find something to do, once a step has changed the state.
+//! The places at which waiting calls may succeed after a step has changed the state.
 ghost use Rattle.std.specs.Prelude.{◌≡◌, ◌⊎◌, ℕ, ◌<◌, ◌^◌, true, false, Some, is_some, option_map};
 ghost use Rattle.std.specs.FinMap as map;
 ghost use Rattle.ipc_model.specs.declared.port.PortState.{PortState};
@@ -19,8 +19,8 @@ use spaces::Spaces;
 use waiting::{Places, place_of_port};
 
 impl IpcState {
-    /// Names the places at which a call that found nothing to do may find something, by what has changed since the last
-    /// commit or rollback. If all places are named already, they stay so, and nothing is looked at.
+    /// Reports the places at which a waiting call may succeed, from the changes since the last commit or rollback. If
+    /// all places are reported already, nothing is computed.
     pub fn name_places(&self, places: &mut Places)
         ensures { Covers self.now.before self.now.current (names places.new) }
     {
@@ -33,7 +33,7 @@ impl IpcState {
     }
 }
 
-/// Names each name that changed.
+/// Reports each name that changed.
 fn name_names(spaces: &Spaces, ports: &Ports, places: &mut Places)
     ensures small { AreSmall spaces.now.before × AreSmall spaces.now.current }
     ensures listed { (number : ℕ) → (entry_at_place spaces.now.current number ≡ entry_at_place spaces.now.before number)
@@ -46,7 +46,7 @@ fn name_names(spaces: &Spaces, ports: &Ports, places: &mut Places)
     }
 }
 
-/// Names a name that changed, and the set as well if the name holds a member's receive right.
+/// Reports a name that changed, and its set if the name holds a member's receive right.
 fn name_name(spaces: &Spaces, ports: &Ports, place: u64, places: &mut Places)
     ensures kept { IsMore places.old places.new }
     ensures listed { IsSetListed (names places.new) spaces.now.current ports.now.current.ports place }
@@ -59,7 +59,7 @@ fn name_name(spaces: &Spaces, ports: &Ports, place: u64, places: &mut Places)
     }
 }
 
-/// Names the places of each port that changed.
+/// Reports the places of each port that changed.
 fn name_ports(spaces: &Spaces, ports: &Ports, places: &mut Places)
     ensures kept { IsMore places.old places.new }
     ensures listed { (serial : ℕ) → same_occupancy ports.now.before.ports ports.now.current.ports serial
@@ -76,7 +76,8 @@ fn name_ports(spaces: &Spaces, ports: &Ports, places: &mut Places)
     }
 }
 
-/// Names a port if its queue has room or it is gone, and the places of its receives if it has a message or is in a set.
+/// Reports a port if its queue has room or the port is gone, and the places of its receives if it has a message or is
+/// in a set.
 fn name_port(spaces: &Spaces, ports: &Ports, serial: u64, places: &mut Places)
     ensures kept { IsMore places.old places.new }
     ensures listed { IsPortListed (names places.new) spaces.now.current ports.now.current.ports serial }
@@ -92,7 +93,7 @@ fn name_port(spaces: &Spaces, ports: &Ports, serial: u64, places: &mut Places)
     name_receivers(spaces, serial, numbers, held != 0, places);
 }
 
-/// Names the places at which receives of a port wait.
+/// Reports the places at which receives of a port wait.
 fn name_receivers(
     spaces: &Spaces,
     serial: u64,
@@ -115,7 +116,7 @@ fn name_receivers(
     }
 }
 
-/// Names the name that holds a port's receive right, and the port's set, so far as a receive there may find something.
+/// Reports the name that holds a port's receive right, and the port's set, if a receive there may succeed.
 fn name_receiver(place: u64, set: Option<u32>, has_messages: bool, places: &mut Places)
     ensures kept { IsMore places.old places.new }
     ensures listed { IsListedFor (names places.new) set has_messages place }

@@ -1,4 +1,4 @@
--- What the front of some bytes shows of all of them.
+-- Facts about a whole that its front determines.
 use Rattle.std.proofs.Common.{◌≡◌, ◌⊎◌, inl, inr, ℕ, ◌+◌, ◌-◌, ◌≤◌, List, ◌++◌, length, take, drop, refl, sym, ap, ◌∙◌, subst, arith, append_assoc, take-append-drop, length-append, length-drop, length-take}
 use Rattle.std.proofs.lemmas.List.{take_all, take_at, take-take, drop_at, drop-drop, drop-take}
 use Rattle.journal.specs.declared.window.TheConstants.{LONGEST_STEP}
@@ -9,7 +9,7 @@ pub record IsFrontOf (most : ℕ) (front whole : List ℕ) : Type 0 where
   pub shown : front ≡ take (length front) whole
   pub enough : (most ≤ length front) ⊎ (front ≡ whole)
 
--- what the front begins with, the whole begins with
+-- if the front begins with an encoding, so does the whole
 pub whole_begins : (most : ℕ) (front whole encoding content : List ℕ) → IsFrontOf most front whole
     → front ≡ encoding ++ content → whole ≡ encoding ++ drop (length encoding) whole
 whole_begins most front whole encoding content is begins =
@@ -21,7 +21,7 @@ whole_begins most front whole encoding content is begins =
     ap (drop (length encoding)) joined ∙ drop_at encoding (content ++ rest) (length encoding) refl in
     joined ∙ ap (λ l. encoding ++ l) (sym beyond)
 
--- and after that comes the front of what is left
+-- after the encoding, the front's rest is a front of the whole's rest
 pub front_after : (most less : ℕ) (front whole encoding content : List ℕ) → IsFrontOf most front whole
     → front ≡ encoding ++ content → most ≡ length encoding + less
     → IsFrontOf less content (drop (length encoding) whole)
@@ -42,7 +42,7 @@ front_after most less front whole encoding content is begins fits =
       ];
     }
 
--- what the whole begins with, the front begins with, if that isn't too long
+-- if the whole begins with an encoding that isn't too long, so does the front
 pub front_begins : (most : ℕ) (front whole encoding rest : List ℕ) → IsFrontOf most front whole
     → whole ≡ encoding ++ rest → length encoding ≤ most → front ≡ encoding ++ drop (length encoding) front
 front_begins most front whole encoding rest is begins fits = elim is.enough [
@@ -57,7 +57,7 @@ front_begins most front whole encoding rest is begins fits = elim is.enough [
       (sym (ap (drop (length encoding)) same ∙ drop_at encoding rest (length encoding) refl))
 ]
 
--- a full window shows a front of what stands from its place on
+-- a full window holds a front of the bytes from its offset on
 pub window_front : (bytes : List ℕ) (window : WindowValue) → IsOver bytes window → IsFull window
     → IsFrontOf LONGEST_STEP window.front (drop window.at bytes)
 window_front bytes window over full = record {
@@ -69,7 +69,7 @@ window_front bytes window over full = record {
   ];
 }
 
--- a window that moves on shows the same slot
+-- an advanced window is over the same slot
 pub window_on : (bytes : List ℕ) (old new : WindowValue) (count : ℕ) → IsOver bytes old → count ≤ length old.front
     → new.at ≡ old.at + count → new.front ≡ drop count old.front → new.room ≡ old.room → new.end ≡ old.end
     → IsOver bytes new
@@ -86,7 +86,7 @@ window_on bytes old new count over fits moved left room end =
       room = subst (λ n. (LONGEST_STEP ≤ n) ⊎ (length bytes ≤ n)) (sym room) over.room;
     }
 
--- what is left of the front of a buffer
+-- the length of the rest of a buffer's front
 front_long : (from to : ℕ) (buffer : List ℕ) → to ≤ length buffer → length (drop from (take to buffer)) ≡ to - from
 front_long from to buffer fits = omega (arith, length-drop from (take to buffer), length-take to buffer)
 

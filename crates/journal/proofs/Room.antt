@@ -1,4 +1,4 @@
--- Where there is room for the longest record, a record is added.
+-- A record is added if there is room for the longest one.
 use Rattle.std.proofs.Common.{◌≡◌, ℕ, ◌+◌, ◌<◌, ◌≤◌, List, ◌++◌, length, Result, Ok, Err, OnOk, OnErr, arith}
 use Rattle.codes.specs.declared.limits.TheConstants.{MAX_FRAME_CONTENT}
 use Rattle.ipc_laws.specs.BatchLaws.{length-record_encoding}
@@ -15,7 +15,7 @@ pub longest : (number : ℕ) (entry : Record) → length (call_encoding entry.ca
     → length (reply_encoding entry.reply) ≤ MAX_FRAME_CONTENT → length (record_encoding number entry) ≤ MOST_OF_RECORD
 longest number entry short short_too = omega (arith, length-record_encoding number entry, short, short_too)
 
--- what fails only without room doesn't fail
+-- an operation that fails only without room doesn't fail
 with_room : {T E P : Type 0} (result : Result T E) (room more : ℕ) → more ≤ room → OnErr result (room < more)
     → OnOk result P → P
 with_room (Ok x) room more fits full ok = ok

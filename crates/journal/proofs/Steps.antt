@@ -15,7 +15,7 @@ use Rattle.journal.specs.Reading.{Place, EncodesFrom, Leads, IsLast, IsNothing, 
 use Rattle.journal.specs.Windows.{WindowValue, IsOver, IsFull}
 use Rattle.journal.proofs.Pieces.{IsFrontOf, whole_begins, front_after, front_begins, window_front}
 
--- the greatest number of bytes of a record
+-- the maximum length of a record in bytes
 abbrev pub longest_record : ℕ
 longest_record = 131084
 
@@ -78,7 +78,7 @@ head_of n count size content tail [] records
       flat = flat;
     }
 
--- a batch's encoding after its gate, from its head
+-- a batch's encoding after its gate, in terms of its head
 batch_of_head : (n : ℕ) (batch : List Record) (rest : List ℕ)
     → open_gate ∷ (batch_encoding n batch ++ rest) ≡ head_encoding (length batch) (length (records_encoding n batch))
     ++ (records_encoding n batch ++ rest)
@@ -86,7 +86,7 @@ batch_of_head n batch rest =
     ap (λ (l : List ℕ). open_gate ∷ l) (batch_apart n batch rest)
     ∙ sym (head_apart (length batch) (length (records_encoding n batch)) (records_encoding n batch ++ rest))
 
--- A reader that went into the next batch, or was in one: where it is then, and that from there on the same is encoded.
+-- The reader's place in a batch that it was in or has entered. The same records are encoded from there on.
 pub record IsEntered (bytes front : List ℕ) (old : Place) (count size : ℕ) (content : List ℕ) : Type 0 where
   pub at : ℕ
   pub shown : IsFrontOf longest_record content (drop at bytes)
@@ -197,7 +197,7 @@ entered bytes front old count size content is (inl within) =
 entered bytes front old count size content is (inr next) =
     in_next bytes front old count size content is next.0 next.1 next.2 next.3 next.4 next.5
 
--- the first of the records that are left of a batch
+-- the first of the remaining records of a batch
 pub record HasNext (bytes : List ℕ) (place : Place) (records : List Record) (end : ℕ) : Type 0 where
   pub first : Record
   pub more : List Record
@@ -259,7 +259,7 @@ has_next bytes place records end some encodes =
     next_of bytes place records end encodes.batch encodes.batches encodes.tail some encodes.encoding encodes.counted
     encodes.sized encodes.closed encodes.none_empty encodes.flat encodes.canonical encodes.bounded encodes.ended
 
--- the records that are left of a batch, with one more before them
+-- the remaining records of a batch, with one more before them
 one_more : (bytes : List ℕ) (old new : Place) (entry : Record) (records more : List Record) (end : ℕ) → IsRecord entry
     → 0 < old.left → drop old.at bytes ≡ record_encoding old.number entry ++ drop new.at bytes
     → new.number ≡ old.number + 1 → new.left ≡ old.left - 1
@@ -295,7 +295,7 @@ one_more bytes old new entry records more end fits some encoding numbered left s
       ended = encodes.ended;
     }
 
--- the record at the front is the first of those that are encoded
+-- the record at the front is the first of the encoded records
 first_is : (bytes : List ℕ) (old new : Place) (entry : Record) (records : List Record) (end : ℕ) → IsRecord entry
     → old.number < MAX_RECORDS → drop old.at bytes ≡ record_encoding old.number entry ++ drop new.at bytes
     → new.number ≡ old.number + 1 → new.left ≡ old.left - 1
@@ -327,7 +327,7 @@ leads_within bytes old new entry fits room some encoding numbered left sized = r
   );
 }
 
--- what a full window shows at a reader's place
+-- the bytes in a full window at a reader's place
 shown_at : (bytes front : List ℕ) (window : WindowValue) (old : Place) → IsOver bytes window → IsFull window
     → old.at ≡ window.at → front ≡ window.front → IsFrontOf LONGEST_STEP front (drop old.at bytes)
 shown_at bytes front window old over full same shows =
@@ -335,7 +335,7 @@ shown_at bytes front window old over full same shows =
     (subst (λ k. IsFrontOf LONGEST_STEP window.front (drop k bytes)) (sym same)
     (window_front bytes window over full))
 
--- A record was taken from a window that was full.
+-- A record was read from a full window.
 pub taken : (bytes front : List ℕ) (window : WindowValue) (old new : Place) (count size : ℕ) (content beyond : List ℕ)
     (entry : Record) → IsOver bytes window → IsFull window → old.at ≡ window.at → front ≡ window.front
     → IsInBatch old.left old.size front count size content → content ≡ record_encoding old.number entry ++ beyond
@@ -380,7 +380,7 @@ whole_closed most [] whole is closed = tt
 whole_closed most (gate ∷ front) [] is closed = absurd (cc is.shown)
 whole_closed most (gate ∷ front) (first ∷ whole) is closed = λ opened. closed (ap first_byte (sym is.shown) ∙ opened)
 
--- No open gate comes after the last batch.
+-- No open gate follows the last batch.
 pub last : (bytes front : List ℕ) (window : WindowValue) (old : Place) → IsOver bytes window → IsFull window
     → old.at ≡ window.at → front ≡ window.front → old.number ≤ MAX_RECORDS → IsAfterBatches old.left old.size front
     → IsLast bytes old
@@ -402,7 +402,7 @@ last bytes front window old over full same shows room beyond =
       ended = omega (arith, length-drop old.at bytes, over.inside);
     }
 
--- what is encoded after the last batch, or from the next one's head on
+-- the bytes encoded after the last batch, or from the next batch's head on
 no_step : (n : ℕ) (left size : ℕ) (front whole tail : List ℕ) (batch records : List Record)
     (batches : List (List Record)) → IsFrontOf LONGEST_STEP front whole
     → whole ≡ records_encoding n batch ++ (batches_encoding (n + length batch) batches ++ tail) → length batch ≡ left
@@ -451,7 +451,7 @@ no_batch_at bytes front window old over full same shows no_batch no_end records 
     encodes.sized encodes.closed encodes.none_empty encodes.flat encodes.canonical encodes.bounded no_batch
     no_end
 
--- No record of this number stands in the batch.
+-- The batch contains no record with this number.
 pub no_record_at : (bytes front : List ℕ) (window : WindowValue) (old : Place) (count size : ℕ) (content : List ℕ)
     → IsOver bytes window → IsFull window → old.at ≡ window.at → front ≡ window.front
     → IsInBatch old.left old.size front count size content

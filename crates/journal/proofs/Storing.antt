@@ -1,4 +1,4 @@
--- The post-crash contents while bytes are stored after a slot's gate, call by call.
+-- The contents after a crash, while bytes are stored after a slot's gate, one device call after another.
 use Rattle.std.proofs.Common.{◌≡◌, ◌⊎◌, inl, inr, ℕ, ◌+◌, ◌-◌, ◌<◌, ◌≤◌, List, Result, Ok, Err, [], ◌∷◌, ◌++◌, length, take, drop, get_or, refl, sym, ◌∙◌, ap, subst, arith, length-append, append_assoc, take-append-drop}
 use Rattle.std.proofs.lemmas.Bool.{cases_lt}
 use Rattle.std.proofs.lemmas.List.{append-nil, take_at, drop_at, take_all, take-append-le, drop_all, drop_more, take_more, length-take}
@@ -17,7 +17,7 @@ passes_none disk P =
       since = λ k c after le left. absurd (omega arith);
     }
 
--- one call and then another
+-- one call, then another
 pub passes_then : (old mid new : View) (P Q : Slots → Type 0) → Passes old mid P → Passes mid new Q
     → ((c : Slots) → Q c → P c) → Passes old new P
 passes_then old mid new P Q first second less = record {
@@ -33,7 +33,7 @@ passes_then old mid new P Q first second less = record {
   ];
 }
 
--- What a crash after a call may leave: what it might have left before, or what the call makes of that.
+-- The possible contents after a crash following a call: the former ones, or their changes by the call.
 pub left_after : (old new : View) (P : Slots → Type 0) → Passes old new P → (c : Slots) → MayLeave new c
     → MayLeave old c ⊎ P c
 left_after old new P time c left = elim (cases_lt old.moment new.moment) [
@@ -61,7 +61,7 @@ slot_set c Image1 x = refl
 slot_set c Segment0 x = refl
 slot_set c Segment1 x = refl
 
--- while the bytes are stored: what a crash at a moment since then may leave, and what a crash now may leave
+-- while the bytes are stored: the contents that a crash may have left so far, and those that a crash may leave now
 pub record IsStoring (old new : View) (slot : Slot) (encoding : List ℕ) : Type 0 where
   pub time : Passes old new (Follows old slot (IsMidStore encoding))
   pub now : (c : Slots) → MayLeave new c → Follows old slot (IsMidStore encoding) c
@@ -82,13 +82,13 @@ storing_on old mid new slot encoding Q so_far time less = record {
   now = λ c left. elim (left_after mid new Q time c left) [ inl before ↦ so_far.now c before | inr made ↦ less c made ];
 }
 
--- a sync adds nothing
+-- a sync adds no possible contents
 pub storing_sync : (old mid new : View) (slot : Slot) (encoding : List ℕ) → IsStoring old mid slot encoding
     → Passes mid new (MayLeave mid) → IsStoring old new slot encoding
 storing_sync old mid new slot encoding so_far time =
     storing_on old mid new slot encoding (MayLeave mid) so_far time so_far.now
 
--- a write past a slot's end keeps what stands before it
+-- a write at a slot's end keeps the bytes before it
 tail_written : (old new : List ℕ) (at n : ℕ) → at ≡ length old → TornWrite at n old new → new ≡ old ++ drop at new
 tail_written old new at n ends torn =
     sym (take-append-drop at new) ∙ ap (λ l. l ++ drop at new) (torn.before ∙ take_all at old (omega arith))
@@ -110,7 +110,7 @@ storing_encoding old new slot encoding at n synced ends time =
       made.3,
     ))
 
--- a write of one byte that stands within the slot
+-- a write of one byte within the slot
 gate_written : (front encoding new : List ℕ) (gate at : ℕ) → at ≡ length front
     → TornWrite at 1 (front ++ (gate ∷ encoding)) new → new ≡ front ++ (get_or new at 0 ∷ encoding)
 gate_written front encoding new gate at begins torn =
@@ -122,7 +122,7 @@ gate_written front encoding new gate at begins torn =
     (λ i. (torn.before ∙ take_at front (gate ∷ encoding) at (sym begins)) i
     ++ (drop_more new at 0 long ∙ ap (λ l. get_or new at 0 ∷ l) beyond) i)
 
--- the write that opens the gate, once the bytes are on the disk
+-- the write that opens the gate, once the bytes are durable
 pub storing_gate : (old mid new : View) (slot : Slot) (encoding front : List ℕ) (gate at : ℕ) → IsSynced old slot
     → slot_of old.seen slot ≡ front ++ gate ∷ [] → at ≡ length front → IsStoring old mid slot encoding
     → ((c : Slots) → MayLeave mid c → slot_of c slot ≡ front ++ (gate ∷ encoding))
@@ -148,12 +148,12 @@ storing_gate old mid new slot encoding front gate at synced whole begins so_far 
           ∙ slot_twice d slot (slot_of e slot) (slot_of c slot),
     ))
 
--- a slot's last byte, and what stands before it
+-- a slot's last byte, and the bytes before it
 last_apart : (slot : List ℕ) (at : ℕ) → 0 < length slot → at ≡ length slot - 1
     → slot ≡ take at slot ++ get_or slot at 0 ∷ []
 last_apart slot at some last = sym (take_all (at + 1) slot (omega arith)) ∙ take_more slot at 0 (omega arith)
 
--- the bytes were written and are on the disk, and then the gate was written
+-- the bytes were written and synced, then the gate was written
 pub storing_whole : (old written synced new : View) (slot : Slot) (encoding : List ℕ) (gate n : ℕ) → IsSynced old slot
     → 0 < length (slot_of old.seen slot) → gate ≡ length (slot_of old.seen slot) - 1
     → Passes old written (Follows old slot (TornWrite (gate + 1) (length encoding)))
@@ -179,13 +179,13 @@ storing_whole old written synced new slot encoding gate n settled some last time
     (λ c left. is_synced c left ∙ held)
     (subst (λ k. Passes synced new (Follows synced slot (TornWrite gate k))) one time)
 
--- a call that failed after calls that didn't
+-- a call that failed after successful calls
 pub counted_error : {T E : Type 0} (before mid now : ℕ) (r : Result T E) (e : E) → r ≡ Err e → mid ≡ before
     → now ≡ one_more mid → CountsFailure before now r
 counted_error before mid now (Ok v) e is same counted = absurd (cc is)
 counted_error before mid now (Err f) e is same counted = record { ok = tt; err = counted ∙ ap one_more same }
 
--- the gate is opened over the last byte, and the stored bytes follow it
+-- the open gate replaces the last byte, and the stored bytes follow it
 opened_encoding : (s encoding : List ℕ) (gate x : ℕ) → gate + 1 ≡ length s
     → written_at (written_at s (gate + 1) encoding) gate (x ∷ []) ≡ take gate s ++ (x ∷ encoding)
 opened_encoding s encoding gate x last =

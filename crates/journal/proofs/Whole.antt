@@ -6,13 +6,13 @@ use Rattle.words.specs.Words.{word, long_word}
 use Rattle.words.specs.WordLaws.{same_word}
 use Rattle.journal.specs.Batch.{BatchValue, body_of, content_of, padded, value_of, with_encoding, without_last, IsWhole}
 
--- what stands before the last element
+-- the elements before the last one
 front_of_one : (all front last : List ℕ) → all ≡ front ++ last → length last ≡ 1 → take (length all - 1) all ≡ front
 front_of_one all front last is one =
     let begins : length all - 1 ≡ length front = omega (arith, ap length is, length-append front last) in
     (λ i. take (begins i) (is i)) ∙ take_at front last (length front) refl
 
--- how a batch of these records is read back
+-- the body of a batch's bytes is the body that was encoded
 pub body_back : (count : ℕ) (body : List ℕ)
     → body_of (content_of (record { count = count; body = body }) ++ closed_gate ∷ []) ≡ body
 unfolding content_of
@@ -43,7 +43,7 @@ pushed_long count encoding more pushed whole is =
       length-take (length encoding - 1) encoding,
     )
 
--- one more record before the gate, and then the count and length
+-- one more record before the gate; then count and length are updated
 pub more_encoding : (count : ℕ) (encoding more pushed new : List ℕ) → IsWhole count encoding
     → pushed ≡ take (length encoding - 1) encoding ++ (more ++ closed_gate ∷ [])
     → new ≡ word (count + 1) ++ (long_word (length pushed - 13) ++ drop 12 pushed)
@@ -69,7 +69,7 @@ more_encoding count encoding more pushed new whole is_pushed is_new =
     ∙ ap (λ (l : List ℕ). word (count + 1) ++ (long_word (length (body ++ more)) ++ l))
     (sym (append_assoc body more (closed_gate ∷ [])))
 
--- this many bytes less before the gate, and then the count less one, and the length
+-- the last record before the gate is removed; then count and length are updated
 pub cut_encoding : (count size : ℕ) (encoding cut new : List ℕ) → IsWhole count encoding
     → size ≤ length (body_of encoding) → cut ≡ take (length encoding - 1 - size) encoding ++ closed_gate ∷ []
     → new ≡ word (count - 1) ++ (long_word (length cut - 13) ++ drop 12 cut)
@@ -105,11 +105,11 @@ none_encoding : replicate 13 0 ≡ content_of (record { count = 0; body = [] }) 
 unfolding content_of
 none_encoding = refl
 
--- no bytes stand for a batch of no records
+-- no bytes mean a batch without records
 pub none_whole : (encoding : List ℕ) → encoding ≡ [] → IsWhole 0 (padded encoding)
 none_whole encoding is = whole_of 0 [] (padded encoding) (ap padded is ∙ none_encoding)
 
--- bytes that aren't empty stay as they are
+-- padding leaves bytes unchanged unless there are none
 pub padded_some : (encoding : List ℕ) → 0 < length encoding → padded encoding ≡ encoding
 padded_some [] some = absurd (omega arith)
 padded_some (x ∷ encoding) some = refl

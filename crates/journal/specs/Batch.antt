@@ -6,7 +6,7 @@ use Rattle.ipc_model.specs.encodings.Encodings.{records_encoding}
 use Rattle.ipc_model.specs.store.Store.{closed_gate}
 use Rattle.words.specs.Words.{word, long_word}
 
--- How many records a batch has, and their encodings, joined.
+-- The number of records in a batch, and their encodings in sequence.
 pub record BatchValue : Type 0 where
   pub count : ℕ
   pub body : List ℕ
@@ -20,23 +20,23 @@ batch_code =
 abbrev pub empty_batch : BatchValue
 empty_batch = record { count = 0; body = [] }
 
--- one more record, with this encoding
+-- the batch with one more record, which has this encoding
 abbrev pub with_encoding : BatchValue → List ℕ → BatchValue
 with_encoding batch encoding = record { count = batch.count + 1; body = batch.body ++ encoding }
 
--- without the last record, whose encoding has this many bytes
+-- the batch without its last record, whose encoding has this length
 abbrev pub without_last : BatchValue → ℕ → BatchValue
 without_last batch size = record { count = batch.count - 1; body = take (length batch.body - size) batch.body }
 
--- what stands after the batch's gate: how many records, how many bytes they have, and the records
+-- the bytes after the batch's gate: the number of records, the length of their encodings, and the encodings
 unfoldable pub content_of : BatchValue → List ℕ
 content_of batch = word batch.count ++ (long_word (length batch.body) ++ batch.body)
 
--- the bytes between a batch's first twelve, which hold its count and length, and the gate after it
+-- the bytes after a batch's first twelve, which hold its count and length, and before the gate at the end
 abbrev pub body_of : List ℕ → List ℕ
 body_of encoding = drop 12 (take (length encoding - 1) encoding)
 
--- no bytes are taken for those of a batch of no records
+-- the bytes of a batch, where no bytes mean a batch without records
 abbrev pub padded : List ℕ → List ℕ
 padded [] = replicate 13 0
 padded encoding = encoding
@@ -44,11 +44,11 @@ padded encoding = encoding
 abbrev pub value_of : ℕ → List ℕ → BatchValue
 value_of count encoding = record { count = count; body = body_of encoding }
 
--- These bytes are a batch of this many records, and a closed gate after it.
+-- These bytes are a batch with this many records, and a closed gate after it.
 abbrev pub IsWhole : ℕ → List ℕ → Type 0
 IsWhole count encoding = encoding ≡ content_of (value_of count encoding) ++ closed_gate ∷ []
 
--- The batch is of these records, numbered from n.
+-- The batch contains these records, numbered from n.
 pub record Holds (n : ℕ) (records : List Record) (batch : BatchValue) : Type 0 where
   pub counted : batch.count ≡ length records
   pub encoding : batch.body ≡ records_encoding n records

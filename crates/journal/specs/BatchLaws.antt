@@ -1,11 +1,11 @@
--- What a batch that is being made encodes.
+-- The encoding of a batch that is being built.
 use Rattle.std.specs.Prelude.{◌≡◌, ℕ, List, ◌++◌, length}
 use Rattle.ipc_model.specs.declared.record.Record.{Record}
 use Rattle.ipc_model.specs.store.Store.{batch_encoding}
 use Rattle.journal.specs.Batch.{BatchValue, Holds, content_of}
 use Rattle.words.specs.Words.{word, long_word}
 
--- a batch of these records has the encoding of their batch
+-- the content of a batch with these records is their encoding as a batch
 pub batch_of_records : (n : ℕ) (records : List Record) (batch : BatchValue) → Holds n records batch
     → content_of batch ≡ batch_encoding n records
 unfolding content_of batch_encoding

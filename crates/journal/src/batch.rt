@@ -13,14 +13,14 @@ use slot_steps::CLOSED_GATE;
 use std::alloc::{AllocError, Global};
 use std::marker::Model;
 
-/// How many bytes of a batch come before its records: their number, and how many bytes they have.
+/// Length in bytes of a batch before its records: their number and the length of their encodings.
 const HEADER: usize = 12;
 
-/// The most bytes that a record has: its number and its space, and the frames of its call and its reply.
+/// Maximum length of a record in bytes: its number and its space, and the frames of its call and its reply.
 const MOST_OF_RECORD: usize = 20 + 2 * (MAX_FRAME_CONTENT as usize);
 
-/// Records that are stored together, encoded as they are added. The batch is ready to be written at any time, so
-/// storing it takes no memory.
+/// Records that are stored together. Each is encoded when it is added, and the batch can be written at any time, so
+/// that storing it allocates nothing.
 #[derive(Drop)]
 pub struct Batch {
     encoding: Vec<u8>,
@@ -36,12 +36,12 @@ impl Model for Batch {
 
     ghost view = { λ b. value_of b.count (padded b.encoding.items) };
 
-    // A closed gate stands after the records. If there are none, there may be no bytes at all.
+    // A closed gate follows the records. If there are no records, there may be no bytes at all.
     ghost invariant = { λ b. IsWhole b.count (padded b.encoding.items) };
 }
 
 impl Batch {
-    /// An empty batch. It takes no memory.
+    /// Creates an empty batch. It allocates nothing.
     pub fn new(alloc: Global) -> Self
         ensures { result ≡ empty_batch }
     {
@@ -51,15 +51,15 @@ impl Batch {
         }
     }
 
-    /// How many records it has.
+    /// Returns the number of records.
     pub fn count(&self) -> u32
         ensures { result ≡ self.now.count }
     {
         self.count
     }
 
-    /// Adds the record of a call of a task of this space with this reply, with its number: the call as a record keeps it.
-    /// It returns how many bytes the record's encoding has. If an allocation fails, nothing changed.
+    /// Adds a record: its number, the space of the task, the call in canonical form and the reply. Returns the length
+    /// of the record's encoding in bytes. If an allocation fails, nothing changed.
     pub fn add_exchange(
         &mut self,
         number: u64,
@@ -77,7 +77,8 @@ impl Batch {
         ensures err { OnErr result (self.new ≡ self.old) }
     {
         write_front(&mut self.encoding)?;
-        // How long the record is isn't known before it is encoded. With room for the longest, no push fails halfway.
+        // The record's length is unknown until it is encoded. With room for the longest record no push can fail
+        // halfway.
         self.encoding.reserve(MOST_OF_RECORD)?;
         let size = push_before_gate(&mut self.encoding, number, space, call, reply);
         self.count += 1;
@@ -85,7 +86,7 @@ impl Batch {
         Ok(size)
     }
 
-    /// Removes the last record, which has `size` bytes. The room that it took stays.
+    /// Removes the last record, whose encoding has `size` bytes. Its memory stays allocated.
     pub fn remove_last(&mut self, size: usize)
         requires some { 0 < self.old.count }
         requires within { size ≤ length self.old.body }
@@ -97,7 +98,7 @@ impl Batch {
         write_header(&mut self.encoding, count - 1);
     }
 
-    /// Removes all records. The room that they took stays.
+    /// Removes all records. Their memory stays allocated.
     pub fn clear(&mut self)
         ensures { self.new ≡ empty_batch }
     {
@@ -105,7 +106,7 @@ impl Batch {
         self.count = 0;
     }
 
-    /// The batch as it is written after its gate, with a closed gate at the end.
+    /// Returns the bytes that are written after the batch's gate. They end with a closed gate.
     pub(crate) fn encoding(&self) -> &[u8]
         requires { 0 < self.now.count }
         ensures { result.now ≡ content_of self.now ++ closed_gate ∷ [] }
@@ -115,7 +116,7 @@ impl Batch {
     }
 }
 
-/// Writes the bytes of an empty batch if there are no bytes yet.
+/// Appends the encoding of an empty batch if there are no bytes yet.
 fn write_front(encoding: &mut Vec<u8>) -> Result<(), AllocError>
     ensures ok { OnOk result (encoding.new.items ≡ padded encoding.old.items) }
     ensures err { OnErr result (encoding.new.items ≡ encoding.old.items) }
@@ -126,8 +127,8 @@ fn write_front(encoding: &mut Vec<u8>) -> Result<(), AllocError>
     encoding.extend_from_slice(&[0; HEADER + 1])
 }
 
-/// Adds a record before the gate at the end, and returns how many bytes its encoding has. There must be room for the
-/// longest.
+/// Inserts a record before the gate at the end, and returns the length of its encoding in bytes. There must be room for
+/// the longest record.
 fn push_before_gate(
     encoding: &mut Vec<u8>,
     number: u64,
@@ -146,14 +147,14 @@ fn push_before_gate(
 {
     let end = encoding.len() - 1;
     encoding.truncate(end);
-    // There is room, so no allocation fails.
+    // There is room, so no allocation can fail.
     let _ = push_exchange(encoding, number, space, call, reply);
     let size = encoding.len() - end;
     encoding.push_reserved(CLOSED_GATE);
     size
 }
 
-/// Removes bytes before the gate at the end.
+/// Removes `size` bytes before the gate at the end.
 fn cut_before_gate(encoding: &mut Vec<u8>, size: usize)
     requires { size < length encoding.old.items }
     ensures { encoding.new.items ≡ take (length encoding.old.items - 1 - size) encoding.old.items ++ closed_gate ∷ [] }

@@ -1,5 +1,5 @@
-//! The journal: the segment in use, the batches of records in it, each after a gate of its own, and how a new segment
-//! is made.
+//! The journal: the segment in use with its batches of records, each after a gate of its own, and the creation of
+//! segments.
 #![tactic(auto)]
 
 mod batch;

@@ -20,10 +20,10 @@ use std::marker::Model;
 use store_fault::StoreFault;
 use words::{take_long_word, take_word};
 
-/// How many bytes of a segment a reader holds at most.
+/// Maximum number of bytes of a segment that a reader holds in memory.
 pub const PIECE: usize = 1 << 20;
 
-/// What stands after the open gate in front of these bytes; `None` if they don't begin with one.
+/// Returns the bytes after an open gate, or `None` if the bytes don't begin with one.
 fn after_open_gate(bytes: &[u8]) -> Option<&[u8]>
     ensures open { IfSome result (λ beyond. bytes.now ≡ open_gate ∷ beyond.now) }
     ensures closed { IfNone result (IsClosed bytes.now) }
@@ -34,8 +34,9 @@ fn after_open_gate(bytes: &[u8]) -> Option<&[u8]>
     }
 }
 
-/// How many records are left in the batch at these bytes, in how many bytes, and its content. If the last batch has
-/// ended, it is the next one, whose open gate stands in front.
+/// Returns the number of records that remain in the current batch, their length in bytes, and the bytes from there on.
+/// If the current batch has ended, it is the next batch, which begins with an open gate. Returns `None` if there is no
+/// next batch.
 ///
 /// `Damaged`: the batch has bytes after its last record, or no record, or the slot ends within its head.
 fn batch_at(bytes: &[u8], left: u32, size: u64) -> Result<Option<(u32, u64, &[u8])>, StoreFault>
@@ -67,9 +68,9 @@ fn batch_at(bytes: &[u8], left: u32, size: u64) -> Result<Option<(u32, u64, &[u8
     Ok(Some((count, length, content)))
 }
 
-/// The record with this number in front, in at most `size` bytes, and what stands after it.
+/// Splits off the record with this number, which has at most `size` bytes.
 ///
-/// `Damaged`: there is none, or a segment holds no record with this number. `NoMemory`: out of memory.
+/// `Damaged`: there is no such record, or a segment holds no record with this number. `NoMemory`: out of memory.
 fn record_at(
     alloc: Global,
     bytes: &[u8],
@@ -96,8 +97,8 @@ fn record_at(
     Ok((entry, rest))
 }
 
-/// Takes the records of a segment one after another, from its first batch on: those of the batches after open gates, up
-/// to the first gate that is closed or missing. It holds a piece of the slot at a time.
+/// Reads the records of a segment one after another. It starts at the first batch, and ends at the first gate that is
+/// closed or missing. It holds a piece of the slot in memory.
 #[derive(Drop)]
 pub struct RecordReader {
     window: Window,
@@ -120,7 +121,7 @@ impl Model for RecordReader {
 }
 
 impl RecordReader {
-    /// A reader of a segment's slot, whose first batch begins at this place. It holds at most `room` bytes.
+    /// Creates a reader of a segment's slot, whose first batch begins at offset `at`. It holds at most `room` bytes.
     pub fn new<D: Disk>(
         alloc: Global,
         disk: &D,
@@ -146,21 +147,21 @@ impl RecordReader {
         })
     }
 
-    /// The place in the slot after the last record.
+    /// Returns the offset in the slot after the last record that was read.
     pub fn at(&self) -> u64
         ensures { result ≡ self.now.window.at }
     {
         self.window.at()
     }
 
-    /// How many records were read.
+    /// Returns the number of records that were read.
     pub fn number(&self) -> u64
         ensures { result ≡ self.now.number }
     {
         self.number
     }
 
-    /// Takes the next record from what the window shows, which is full.
+    /// Reads the next record from the window, which is full.
     fn take_next(&mut self) -> Result<Option<Record>, StoreFault>
         ensures leads { (bytes : List ℕ) → IsOver bytes self.old.window → IsFull self.old.window
             → IfOk result (λ found. IfSome found (λ entry. Leads bytes (place_of self.old) entry (place_of self.new))) }
@@ -190,10 +191,10 @@ impl RecordReader {
         Ok(Some(entry))
     }
 
-    /// Takes the next record, if there is one.
+    /// Reads the next record, or returns `None` after the last one.
     ///
-    /// `Damaged`, exactly if the bytes from here on encode no batches: the batch isn't whole, isn't encoded as a batch,
-    /// or isn't numbered on from the one before, or there are more records than a segment may hold. `NoMemory`: out of
+    /// `Damaged`: the bytes from here on encode no batches. The batch isn't whole, isn't encoded as a batch, or doesn't
+    /// continue the numbers of the one before, or there are more records than a segment may hold. `NoMemory`: out of
     /// memory. `Device`: the device failed.
     pub fn next<D: Disk>(&mut self, disk: &mut D) -> Result<Option<Record>, StoreFault>
         requires { D.honest → IsOver (slot_of (D.view disk.old).seen self.old.window.slot) self.old.window }

@@ -1,5 +1,5 @@
-// The three steps by which a new segment is made in the slot of an epoch: the slot is closed, the header is written
-// after the gate, and the gate is opened.
+// Creates a new segment in the slot of an epoch in three steps: close the slot, write the header after the gate, open
+// the gate.
 ghost use Rattle.std.specs.Prelude.{◌≡◌, ◌<◌, ◌++◌, ◌∷◌, [], length, take, drop, IfOk, OnOk, ◌≤◌, ◌+◌};
 ghost use Rattle.disk.specs.Slots.{slot_of, with_slot};
 ghost use Rattle.disk.specs.Moments.{IsSynced, Passes, Follows, CountsFailure};
@@ -14,7 +14,8 @@ use slot_steps::{
     write_after, write_gate,
 };
 
-/// What stands after the gate of a segment without batches: the version, six zero bytes, its epoch, and a closed gate.
+/// Returns the bytes after the gate of a segment without batches: the version, six zero bytes, its epoch, and a closed
+/// gate.
 fn segment_start(epoch: u64) -> [u8; 16]
     ensures { result ≡ epoch_encoding epoch ++ closed_gate ∷ [] }
 {
@@ -40,7 +41,7 @@ fn segment_start(epoch: u64) -> [u8; 16]
     ]
 }
 
-/// Writes the header of a segment after a slot's gate, and a closed gate after the header.
+/// Writes a segment's header after a slot's gate, and a closed gate after the header.
 fn write_header<D: Disk>(disk: &mut D, slot: Slot, epoch: u64) -> Result<(), DiskFault>
     requires { D.honest → 0 < length (slot_of (D.view disk.old).seen slot) }
     ensures header { D.honest → OnOk result ((D.view disk.new).seen ≡ with_slot (D.view disk.old).seen slot
@@ -56,7 +57,7 @@ fn write_header<D: Disk>(disk: &mut D, slot: Slot, epoch: u64) -> Result<(), Dis
     sync_after(disk, slot)
 }
 
-/// Makes sure that a closed gate stands at the front of the slot of an epoch's segment.
+/// Closes the gate at the front of the slot of an epoch's segment.
 pub fn roll_close<D: Disk>(disk: &mut D, epoch: u64) -> Result<(), DiskFault>
     ensures begun { D.honest → OnOk result (0 < length (slot_of (D.view disk.new).seen (slot_of_epoch epoch))) }
     ensures closed { D.honest → OnOk result (IsClosed (slot_of (D.view disk.new).seen (slot_of_epoch epoch))) }
@@ -72,8 +73,7 @@ pub fn roll_close<D: Disk>(disk: &mut D, epoch: u64) -> Result<(), DiskFault>
     close_slot(disk, segment_slot(epoch), SEGMENT_HEADER)
 }
 
-/// Writes the header of an epoch's segment after the gate of its slot, which is closed, and a closed gate after the
-/// header.
+/// Writes the header of an epoch's segment after the closed gate of its slot, and a closed gate after the header.
 pub fn roll_head<D: Disk>(disk: &mut D, epoch: u64) -> Result<(), DiskFault>
     requires { D.honest → 0 < length (slot_of (D.view disk.old).seen (slot_of_epoch epoch)) }
     ensures header { D.honest → OnOk result
@@ -88,7 +88,7 @@ pub fn roll_head<D: Disk>(disk: &mut D, epoch: u64) -> Result<(), DiskFault>
     write_header(disk, segment_slot(epoch), epoch)
 }
 
-/// Opens the gate of the slot of an epoch's segment, which is then in use.
+/// Opens the gate of the slot of an epoch's segment. From then on the segment is in use.
 pub fn roll_open<D: Disk>(disk: &mut D, epoch: u64) -> Result<Segment, DiskFault>
     ensures written { D.honest → OnOk result ((D.view disk.new).seen
         ≡ with_slot (D.view disk.old).seen (slot_of_epoch epoch)

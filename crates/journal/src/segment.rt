@@ -13,14 +13,14 @@ use disk::{Disk, DiskFault, Slot};
 use slot_steps::{OPEN_GATE, segment_slot};
 use store_fault::StoreFault;
 
-/// The segment in use: its epoch, and how many records it holds. A closed gate stands after them.
+/// The segment in use: its epoch and the number of its records. A closed gate follows them.
 #[derive(Clone, Copy, PartialEq, Eq)]
 pub struct Segment {
     pub epoch: u64,
     pub records: u64,
 }
 
-/// Writes a batch after a slot's last gate, and opens that gate once the batch is on the disk.
+/// Writes a batch after a slot's last gate, and opens that gate once the batch is durable.
 fn store<D: Disk>(disk: &mut D, slot: Slot, encoding: &[u8]) -> Result<(), DiskFault>
     requires { D.honest → 0 < length (slot_of (D.view disk.old).seen slot) }
     ensures stored { D.honest → OnOk result ((D.view disk.new).seen ≡ with_slot (D.view disk.old).seen slot
@@ -40,11 +40,10 @@ fn store<D: Disk>(disk: &mut D, slot: Slot, encoding: &[u8]) -> Result<(), DiskF
 }
 
 impl Segment {
-    /// Stores a batch. At `Ok` it is on the disk. It takes no memory.
+    /// Stores a batch, which is durable at `Ok`. It allocates nothing.
     ///
-    /// `Full`: the segment would hold more than `MAX_RECORDS` records; nothing changed. `Device`: the device failed,
-    /// and whether the batch is stored isn't known until the store is opened again; the whole batch is there or nothing
-    /// of it.
+    /// `Full`: the segment would hold more than `MAX_RECORDS` records; nothing changed. `Device`: the device failed.
+    /// The whole batch is stored, or nothing of it; only opening the store again can tell.
     pub fn append<D: Disk>(&mut self, disk: &mut D, batch: &Batch) -> Result<(), StoreFault>
         requires some { 0 < batch.now.count }
         requires gate { D.honest → 0 < length (slot_of (D.view disk.old).seen (slot_of_epoch self.old.epoch)) }
@@ -52,8 +51,8 @@ impl Segment {
             ((D.view disk.new).seen ≡ with_slot (D.view disk.old).seen (slot_of_epoch self.old.epoch)
             (with_batch (slot_of (D.view disk.old).seen (slot_of_epoch self.old.epoch)) (content_of batch.now))) }
         ensures synced { D.honest → OnOk result (IsSynced (D.view disk.new) (slot_of_epoch self.old.epoch)) }
-        // A crash at any moment of the call leaves the other slots as they were, and the segment as it was, with bytes
-        // after it, or with the batch after a gate that is open or isn't.
+        // A crash at any moment of the call leaves the other slots unchanged. It leaves the segment with any bytes
+        // appended, or with the batch after a gate that is open or closed.
         ensures any_moment { D.honest → IsSynced (D.view disk.old) (slot_of_epoch self.old.epoch)
             → Passes (D.view disk.old) (D.view disk.new) (Follows (D.view disk.old) (slot_of_epoch self.old.epoch)
             (λ before after. IsMidAppend before (content_of batch.now) after)) }

@@ -1,4 +1,4 @@
-// The part of a slot that is in memory while a reader goes over it.
+// The piece of a slot that a reader holds in memory.
 ghost use Rattle.std.specs.Prelude.{◌≡◌, ◌+◌, ◌≤◌, length, take, drop, IfOk, OnOk};
 ghost use Rattle.disk.specs.Slots.{slot_of};
 ghost use Rattle.disk.specs.Moments.{Passes, MayLeave, CountsFailure};
@@ -8,16 +8,16 @@ use disk::{Disk, DiskFault, Slot};
 use std::alloc::{AllocError, Global};
 use std::marker::Model;
 
-/// The most bytes that a reader takes from a segment at once: a gate, a count and a size, followed by a record's
-/// number, its space and two frames.
+/// Maximum number of bytes that a reader takes from a segment in one step: a gate, a count and a length, then a
+/// record's number, its space and two frames.
 pub const LONGEST_STEP: usize = 1 + 4 + 8 + 8 + 4 + 2 * (4 + 65_532);
 
-/// A piece of a slot, which moves on from the slot's front to its end.
+/// A piece of a slot, which moves from the slot's front to its end.
 #[derive(Drop)]
 pub(crate) struct Window {
     slot: Slot,
 
-    // What was read stands in the buffer from `from` to `to`; in the slot it begins at `at`.
+    // The bytes read are `buffer[from..to]`; in the slot they begin at offset `at`.
     buffer: Vec<u8>,
     from: usize,
     to: usize,
@@ -43,8 +43,8 @@ impl Model for Window {
 }
 
 impl Window {
-    /// A window over a slot from a place on, which shows nothing yet. It has room for `room` bytes, or for the whole
-    /// slot if that has fewer.
+    /// Creates a window over a slot from offset `at` on, without any bytes yet. It has room for `room` bytes, or for
+    /// the whole slot if that is shorter.
     pub(crate) fn over<D: Disk>(
         alloc: Global,
         disk: &D,
@@ -71,21 +71,21 @@ impl Window {
         })
     }
 
-    /// The bytes that it shows.
+    /// Returns the bytes in the window.
     pub(crate) fn front(&self) -> &[u8]
         ensures { result.now ≡ self.now.front }
     {
         &self.buffer[self.from..self.to]
     }
 
-    /// The place in the slot of the first byte that it shows.
+    /// Returns the offset in the slot of the window's first byte.
     pub(crate) fn at(&self) -> u64
         ensures { result ≡ self.now.at }
     {
         self.at
     }
 
-    /// Moves on by `count` bytes.
+    /// Advances the window by `count` bytes.
     pub(crate) fn pass(&mut self, count: usize)
         requires { count ≤ length self.old.front }
         ensures at { self.new.at ≡ self.old.at + count }
@@ -97,7 +97,7 @@ impl Window {
         self.at += count as u64;
     }
 
-    /// Shows what a read from its place on returns.
+    /// Fills the window by one read from its offset.
     fn read<D: Disk>(&mut self, disk: &mut D) -> Result<(), DiskFault>
         ensures shown { D.honest → IsOver (slot_of (D.view disk.old).seen self.old.slot) self.old
             → OnOk result (IsOver (slot_of (D.view disk.old).seen self.old.slot) self.new × IsFull self.new) }
@@ -112,8 +112,8 @@ impl Window {
         Ok(())
     }
 
-    /// Makes the window show as many bytes as a reader's longest step has, or all that there are. It reads only if the
-    /// window shows fewer.
+    /// Ensures that the window holds as many bytes as a reader's longest step needs, or all that remain. It reads only
+    /// if the window holds fewer.
     pub(crate) fn fill<D: Disk>(&mut self, disk: &mut D) -> Result<(), DiskFault>
         ensures shown { D.honest → IsOver (slot_of (D.view disk.old).seen self.old.slot) self.old
             → OnOk result (IsOver (slot_of (D.view disk.old).seen self.old.slot) self.new × IsFull self.new) }

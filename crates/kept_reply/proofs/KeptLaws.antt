@@ -1,4 +1,4 @@
--- What spaces may keep, by kind.
+-- The replies that spaces may keep, by kind.
 use Rattle.std.proofs.Common.{◌≡◌, ◌≢◌, ◌⊎◌, ℕ, ◌<◌, ◌≤◌, ◌^◌, Bool, true, false, ◌==◌, ◌||◌, IsTrue, List, [], length, Option, Some, inl, inr, refl, sym, ap, subst, arith}
 use Rattle.std.proofs.lemmas.Bool.Decides.{Decides-eqb}
 use Rattle.codes.specs.declared.call_number.TheConstants.{NUMBERED, MACH_PORT_RENAME, MACH_PORT_ALLOCATE_NAME, MACH_PORT_DESTROY, MACH_PORT_DEALLOCATE, MACH_PORT_MOD_REFS, MACH_PORT_SET_QLIMIT, MACH_PORT_SET_MSCOUNT, MACH_PORT_SET_SEQNO, MACH_PORT_MOVE_MEMBER, MACH_PORT_INSERT_RIGHT}
@@ -18,11 +18,11 @@ use Rattle.calls.specs.Replies.{Answers}
 use Rattle.calls.proofs.PlainReplies.{record_replies}
 use Rattle.kept_reply.specs.Kinds.{has_no_results, IsOfNumbered}
 
--- a call that may be numbered has the reply in its record
+-- some call that may be numbered has the reply in its record
 HasCall : PlainReply → Type 0
 HasCall r = (c : PlainCall) × (may_be_numbered c ≡ true) × IsRecordedReply c r
 
--- the call of this number, if it has no results
+-- the call with this number, if it has no results
 done_of : (c : PlainCall) (n m : ℕ) → may_be_numbered c ≡ true → HasReply c (reply.Done m) → (n == m) ≡ true
     → HasCall (reply.Done n)
 unfolding HasCall
@@ -144,7 +144,7 @@ true_unless : (b : Bool) → (b ≡ false → ⊥) → b ≡ true
 true_unless true unless = refl
 true_unless false unless = absurd (unless refl)
 
--- what is judged by kind is what a space may keep
+-- the test by kind decides whether a space may keep a reply
 pub kept_by_kind : (kept : NumberedReply) (b : Bool) → kept.request ≢ 0 → kept.request < 2 ^ 32
     → (IsOfNumbered kept.reply → FitsReply kept.reply) → (b ≡ true → IsOfNumbered kept.reply)
     → (b ≡ false → IsOfNumbered kept.reply → ⊥)
@@ -171,11 +171,11 @@ short (reply.Message RcvTooLarge size member message) (inr is) = omega (arith, a
 short (reply.Message code size member message) (inr is) = absurd is.3
 short r is = absurd is
 
--- so it is short
+-- a reply that may be kept is short
 pub short_kept : (kept : NumberedReply) → IsKeptReply kept → length (numbered_encoding kept) ≤ 8220
 short_kept kept is = omega (arith, short kept.reply (kind_of kept is))
 
--- and it answers a numbered call
+-- a reply that may be kept answers a numbered call
 pub kept_answers : (kept : NumberedReply) (content : List ℕ) → IsKeptReply kept → content ≡ numbered_encoding kept
     → Answers NUMBERED content (Numbered kept)
 kept_answers kept content is text = record {

@@ -1,4 +1,4 @@
--- The replies that stand in records of calls that may be numbered, by kind.
+-- The replies that may be in records of calls that may be numbered, by kind.
 use Rattle.std.specs.Prelude.{◌≡◌, ◌⊎◌, ℕ, ◌<◌, Bool, true, ◌==◌, ◌||◌, List, [], length}
 use Rattle.codes.specs.declared.call_number.TheConstants.{MACH_PORT_RENAME, MACH_PORT_ALLOCATE_NAME, MACH_PORT_DESTROY, MACH_PORT_DEALLOCATE, MACH_PORT_MOD_REFS, MACH_PORT_SET_QLIMIT, MACH_PORT_SET_MSCOUNT, MACH_PORT_SET_SEQNO, MACH_PORT_MOVE_MEMBER, MACH_PORT_INSERT_RIGHT}
 use Rattle.codes.specs.declared.kern_return.KernReturn.{KernReturn}
@@ -19,18 +19,18 @@ has_no_results n =
 abbrev pub IsSent : KernReturn → ℕ → ℕ → List ℕ → Type 0
 IsSent code size member message = (code ≡ Success) × (size ≡ 0) × (member ≡ MACH_PORT_NULL) × (message ≡ [])
 
--- what a receive brings of a message of this size: the message, or nothing of one that it destroyed
+-- the bytes that a receive returns for a message of this size: the message, or none if it was destroyed
 abbrev pub Brings : KernReturn → ℕ → List ℕ → Type 0
 Brings Success size message = length message ≡ size
 Brings RcvTooLarge size message = message ≡ []
 Brings code size message = ⊥
 
--- the results of a receive that took out a message
+-- the results of a receive that took a message
 abbrev pub IsReceived : KernReturn → ℕ → ℕ → List ℕ → Type 0
 IsReceived code size member message =
     IsMessageSize size × (MACH_PORT_NULL < member) × (member < MACH_PORT_DEAD) × Brings code size message
 
--- The reply is of a kind that has a record and that may be numbered.
+-- The reply is of a kind that is recorded and may be to a numbered call.
 abbrev pub IsOfNumbered : PlainReply → Type 0
 IsOfNumbered (reply.Done number) = has_no_results number ≡ true
 IsOfNumbered (reply.Allocate name) = Unit {0}

@@ -13,7 +13,7 @@ use record::take_frame;
 use std::alloc::{AllocError, Global};
 use words::push_word;
 
-/// The reply to a numbered call that was found, if one was.
+/// Returns the reply if it is to a numbered call.
 fn numbered_of(found: Option<Reply>) -> Option<NumberedReply>
     ensures found { IfSome result (λ kept. found ≡ Some (variants.Numbered kept)) }
     ensures only { (kept : NumberedReply) → found ≡ Some (variants.Numbered kept) → result ≡ Some kept }
@@ -24,7 +24,7 @@ fn numbered_of(found: Option<Reply>) -> Option<NumberedReply>
     }
 }
 
-/// The reply that this content of a frame encodes, if a space may keep it.
+/// Decodes the content of the frame of a reply that a space may keep, or returns `None` if it isn't one.
 fn read_kept_reply(alloc: Global, content: &[u8]) -> Result<Option<NumberedReply>, AllocError>
     ensures found { IfOk result (λ found. IfSome found
         (λ kept. (content.now ≡ numbered_encoding kept) × IsKeptReply kept)) }
@@ -41,8 +41,8 @@ fn read_kept_reply(alloc: Global, content: &[u8]) -> Result<Option<NumberedReply
     Ok(Some(kept))
 }
 
-/// The reply to this request whose frame stands in front, if a space may keep it, and the bytes after it. It can run
-/// out of memory only for a message, for names or for members.
+/// Splits off the frame of a reply to this request, if a space may keep the reply. It can run out of memory only for a
+/// message, names or members.
 pub fn take_kept_reply(
     alloc: Global,
     request: u32,
@@ -67,8 +67,8 @@ pub fn take_kept_reply(
     Ok(Some((kept, rest)))
 }
 
-/// Adds the frame of a reply that a space keeps. An `Err`: out of memory, or no space keeps such a reply. Some of its
-/// bytes may have been added.
+/// Appends the frame of a reply that a space keeps. `Err`: out of memory, or no space may keep this reply. Part of the
+/// frame may have been appended.
 pub fn push_kept_reply(out: &mut Vec<u8>, kept: &NumberedReply) -> Result<(), AllocError>
     ensures { OnOk result (out.new.items ≡ out.old.items ++ frame_encoding (numbered_encoding kept.now)) }
 {

@@ -11,8 +11,8 @@ use codes::{
 };
 use ipc_model::{NumberedReply, PlainReply, is_message_size};
 
-// A clause doesn't see that the numbers behind a reference are in the ranges of their types. These three functions do
-// nothing but show it.
+// Contracts can't see that the numbers behind a reference are in the ranges of their types. These three functions do
+// nothing but prove it.
 
 fn numbers(row: &[u32])
     ensures { All (λ number. number < 2 ^ 32) row.now }
@@ -44,7 +44,7 @@ fn in_range(reply: &PlainReply)
             bytes(message.as_slice());
         }
         PlainReply::SpaceCreated { space, name } => numbers(&[*space, *name]),
-        // None of these is of a call that may be numbered.
+        // None of these replies is to a call that may be numbered.
         PlainReply::Refused { .. }
         | PlainReply::Names { .. }
         | PlainReply::Type { .. }
@@ -54,7 +54,7 @@ fn in_range(reply: &PlainReply)
     }
 }
 
-/// Whether a call with this number may be numbered and has no results.
+/// Returns true if calls with this number have no results and may be numbered.
 fn has_no_results(number: u32) -> bool
     ensures { result ≡ has_no_results number }
 {
@@ -73,7 +73,7 @@ fn has_no_results(number: u32) -> bool
     )
 }
 
-/// Whether these are the results of a send that was done.
+/// Returns true if these are the results of a send that was done.
 fn is_sent(code: KernReturn, size: u32, member: u32, message: &[u8]) -> bool
     ensures yes { result ≡ true → IsSent code size member message.now }
     ensures no { result ≡ false → IsSent code size member message.now → ⊥ }
@@ -81,7 +81,7 @@ fn is_sent(code: KernReturn, size: u32, member: u32, message: &[u8]) -> bool
     code == KernReturn::Success && size == 0 && member == MACH_PORT_NULL && message.is_empty()
 }
 
-/// Whether these are the results of a receive that took out a message.
+/// Returns true if these are the results of a receive that took a message.
 fn is_received(code: KernReturn, size: u32, member: u32, message: &[u8]) -> bool
     ensures yes { result ≡ true → IsReceived code size member message.now }
     ensures no { result ≡ false → IsReceived code size member message.now → ⊥ }
@@ -96,7 +96,7 @@ fn is_received(code: KernReturn, size: u32, member: u32, message: &[u8]) -> bool
     }
 }
 
-/// Whether the reply stands in a record of some call that may be numbered.
+/// Returns true if the reply may be in a record of a call that may be numbered.
 fn is_of_numbered(reply: &PlainReply) -> bool
     ensures yes { result ≡ true → IsOfNumbered reply.now }
     ensures no { result ≡ false → IsOfNumbered reply.now → ⊥ }
@@ -117,7 +117,7 @@ fn is_of_numbered(reply: &PlainReply) -> bool
     }
 }
 
-/// Whether these are the results of a send that was done, or of a receive that took out a message.
+/// Returns true if these are the results of a send that was done, or of a receive that took a message.
 fn is_of_mach_msg(code: KernReturn, size: u32, member: u32, message: &[u8]) -> bool
     ensures yes { result ≡ true
         → IsSent code size member message.now ⊎ IsReceived code size member message.now }
@@ -131,7 +131,7 @@ fn is_of_mach_msg(code: KernReturn, size: u32, member: u32, message: &[u8]) -> b
     }
 }
 
-/// Whether a space may keep this: under a number that isn't 0, a reply that stands in a record of some call that may be
+/// Returns true if a space may keep this: the request isn't 0, and the reply may be in a record of a call that may be
 /// numbered.
 pub fn may_be_kept(kept: &NumberedReply) -> bool
     ensures { IsTrue result ↔ IsKeptReply kept.now }

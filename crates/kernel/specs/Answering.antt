@@ -1,4 +1,4 @@
--- Answers to calls, from the step that a plain call makes.
+-- Replies to all calls, in terms of the steps of plain calls.
 use Rattle.std.specs.Prelude.{◌≡◌, ℕ, Bool, false, Option, None, Some, MatchOption, if◌then◌else◌, refl}
 use Rattle.std.proofs.Common.{◌∙◌, ap, sym, subst, inl, inr}
 use Rattle.std.specs.FinMap as finmap
@@ -26,13 +26,13 @@ use Rattle.kernel.specs.Stepping.{PrefersStep}
 use Rattle.kernel.specs.declared.answering.Keeping.{Keeping}
 use Rattle.kernel.specs.declared.choices.Shown.{Shown}
 
--- the reply to the call itself, where the call was numbered
+-- the reply to the call itself, also if the call was numbered
 abbrev pub inner : Reply → PlainReply
 inner (reply.Plain answer) = answer
 inner (reply.Numbered answer) = answer.reply
 inner (reply.Repeated answer) = answer.reply
 
--- If the call may get a reply that shows this, it gets that reply.
+-- If a reply that shows these choices is possible, it is this reply.
 pub record PrefersReply (old : State) (space : ℕ) (c : Call) (shown : Shown) (answer : Reply) : Type 0 where
   pub takes : (other : Reply) (new : State) → shown ≡ shown_by (inner other) → Step old space c other new
       → answer ≡ other
@@ -64,7 +64,7 @@ prefers_plain old space c plain shown answer is prefers =
     by (reply.Numbered given) new shows steps = absurd steps
     by (reply.Repeated given) new shows steps = absurd steps
 
--- Number 22 with a call that it doesn't take.
+-- Number 22 with a call that can't be numbered.
 
 pub step_unnumberable : (old : State) (space : ℕ) (c : Call) (answer : Reply) → c ≡ Unnumberable
     → answer ≡ reply.Plain (Refused NUMBERED (if is_gone old space then InvalidTask else InvalidArgument))
@@ -84,11 +84,11 @@ prefers_unnumberable old space c shown answer is refused =
 -- Numbered calls.
 
 module _ (old : State) (space : ℕ) (numbered : NumberedCall) where
-  -- the code of the first test that fails
+  -- the code of the first test that fails, if one fails
   abbrev pub refusal : Option KernReturn
   refusal = first_failing (tests_of_numbered old space numbered)
 
-  -- what the space keeps, if it is asked for again
+  -- the kept reply, if the request repeats the last one
   abbrev pub again : Option NumberedReply
   again = asked_again (finmap.get old.kept space) numbered.request
 
@@ -115,7 +115,7 @@ module _ (old : State) (space : ℕ) (numbered : NumberedCall) where
         ];
       }
 
-  -- it is asked for again
+  -- the request repeats the last one
   pub step_again : (kept : NumberedReply) (answer : Reply) → refusal ≡ None → again ≡ Some kept
       → answer ≡ reply.Repeated kept → Step old space (Numbered numbered) answer old
   unfolding Step
@@ -140,7 +140,7 @@ module _ (old : State) (space : ℕ) (numbered : NumberedCall) where
         ];
       }
 
-  -- it is made
+  -- the call is made
   pub step_made : (given : NumberedReply) (ipc : Ipc) (keeping : Keeping) → refusal ≡ None → again ≡ None
       → given.request ≡ numbered.request → keeping ≡ keeping_numbered numbered.call given
       → PlainStep old.ipc space numbered.call given.reply ipc
@@ -178,7 +178,7 @@ module _ (old : State) (space : ℕ) (numbered : NumberedCall) where
             ];
       }
 
--- Plain calls that leave the state as it is, and with it what the spaces keep.
+-- Plain calls that change neither the IPC state nor the kept replies.
 
 pub step_same : (old : State) (space : ℕ) (c : PlainCall) (given : PlainReply) (answer : Reply)
     → removes_space c given ≡ false → answer ≡ reply.Plain given → PlainStep old.ipc space c given old.ipc

@@ -1,4 +1,4 @@
--- What a call leaves open, and how its reply shows what was chosen.
+-- The choices that a call leaves open, and how its reply shows them.
 use Rattle.std.specs.Prelude.{◌≡◌, ℕ, Bool, true, false, List, Option, None, Some, Result, Ok, Err, MatchResult}
 use Rattle.std.proofs.Common.{refl, sym, ap, subst, ◌∙◌}
 use Rattle.codes.specs.declared.kern_return.KernReturn.{KernReturn}
@@ -26,19 +26,19 @@ use Rattle.receiving.specs.ShownNames.{names_shown}
 use Rattle.receiving.specs.Shows.{preferred_by, encoding_in}
 use Rattle.receiving.specs.declared.asked.Preference.{Preference}
 
--- a name that was chosen
+-- the name that was chosen, if the reply shows one
 abbrev pub name_shown : PlainReply → Option ℕ
 name_shown (reply.Allocate name) = Some name
 name_shown (reply.PreviousTarget name) = Some name
 name_shown (reply.Extracted name kind) = Some name
 name_shown _ = None
 
--- the number of a new space, and its name
+-- the number of a new space and its name, if the reply shows them
 abbrev pub space_shown : PlainReply → Option (ℕ × ℕ)
 space_shown (reply.SpaceCreated space name) = Some (space, name)
 space_shown _ = None
 
--- what a reply shows
+-- the choices that a reply shows
 abbrev pub shown_by : PlainReply → Shown
 shown_by answer =
     record {
@@ -48,12 +48,12 @@ shown_by answer =
       names = names_shown (encoding_in answer);
     }
 
--- If the call may get a reply that shows this, it gets that reply.
+-- If a reply that shows these choices is possible, it is this reply.
 pub record Prefers (old : Ipc) (space : ℕ) (c : PlainCall) (shown : Shown) (answer : PlainReply) : Type 0 where
   pub takes : (other : PlainReply) (new : Ipc) (effects : List Effect) → shown ≡ shown_by other
       → ActsIn old space (names_in old space) c other new effects → answer ≡ other
 
--- Calls that leave something open.
+-- Calls that leave a choice open.
 abbrev pub is_open : PlainCall → Bool
 is_open (call.Allocate kind) = true
 is_open (call.RequestNotification name variant sync notify_name disposition) = true
@@ -62,7 +62,7 @@ is_open (call.Receive limit large name waited) = true
 is_open (call.SpaceCreate name disposition) = true
 is_open c = false
 
--- For other calls the state determines the reply.
+-- The state determines the reply of all other calls.
 
 on_entry : (entry : Option Entry) (action : Entry → Action) (one other : PlainReply) (new last : Ipc)
     (effects others : List Effect) → ActsOn entry action one new effects → ActsOn entry action other last others
@@ -122,7 +122,7 @@ called_alike (Some code) old space names c one other new last effects others clo
 called_alike None old space names c one other new last effects others closed a b =
     done_alike old space names c one other new last effects others closed a b
 
--- a send, done or refused
+-- a send, made or refused
 abbrev pub SentAs : Result Ready KernReturn → Ipc → PlainReply → Ipc → List Effect → Type 0
 SentAs ready old answer new effects =
     MatchResult ready (λ (ready : Ready). (answer ≡ without_message Success 0 MACH_PORT_NULL) × (new ≡ (sent ready).0)
@@ -154,12 +154,12 @@ prefers_closed old space c shown answer new effects closed acts =
           (names_in old space) answer other new last effects others closed acts may;
     }
 
--- Open calls.
+-- Calls that leave a choice open.
 
 name_of : Shown → Option ℕ
 name_of shown = shown.name
 
--- a new right
+-- the name of a new right
 pub prefers_allocate : (old : Ipc) (space kind : ℕ) (shown : Shown) (answer : PlainReply) (new : Ipc)
     (effects : List Effect) → ActsIn old space (names_in old space) (call.Allocate kind) answer new effects
     → ((name : ℕ) → shown.name ≡ Some name → (last : Ipc) → (others : List Effect)
@@ -188,7 +188,7 @@ prefers_allocate old space kind shown answer new effects acts wanted = record {
         wanted b.0 named last others (subst
         (λ (r : PlainReply). Done old space (names_in old space) (call.Allocate kind) r last others) b.2 b) ∙ sym b.2
 
--- a former target that comes back
+-- the name of a former target's send-once right
 pub prefers_request : (old : Ipc) (space name variant sync notify_name disposition : ℕ) (shown : Shown)
     (answer : PlainReply) (new : Ipc) (effects : List Effect)
     → ActsIn old space (names_in old space)
@@ -224,7 +224,7 @@ prefers_request old space name variant sync notify_name disposition shown answer
         (λ (r : PlainReply). Done old space (names_in old space)
         (call.RequestNotification name variant sync notify_name disposition) r last others) b.1 b) ∙ sym b.1
 
--- a right that comes out under a name
+-- the name of an extracted right
 shown_extracted : (taken : Option Taken) (space : ℕ) (other : PlainReply) (last : Ipc) (others : List Effect)
     → actions.Extracted taken space other last others → (name : ℕ) × (kind : RightKind)
     × (other ≡ reply.Extracted name kind)
@@ -264,7 +264,7 @@ prefers_extract old space name disposition shown answer new effects acts wanted 
         (subst (λ (r : PlainReply). Done old space (names_in old space)
         (call.ExtractRight name disposition) r last others) reported.2 b) ∙ sym reported.2
 
--- a new space
+-- the number of a new space and its name
 space_of : Shown → Option (ℕ × ℕ)
 space_of shown = shown.space
 
@@ -306,7 +306,7 @@ prefers_create old space name disposition shown answer new effects acts wanted =
         (subst (λ (r : PlainReply). Done old space (names_in old space)
         (call.SpaceCreate name disposition) r last others) reported.2 b) ∙ sym reported.2
 
--- a receive takes the message that a reply shows, and its rights get the names shown
+-- a receive takes the message that the reply shows, and gives its rights the names that the reply shows
 preference_of : Shown → Preference
 preference_of shown = shown.preference
 
@@ -323,7 +323,7 @@ unfolding preference_of names_of
 prefers_receive old space limit large name waited shown answer wanted =
     record { takes = λ other last others is may. wanted other last others (ap preference_of is) (ap names_of is) may }
 
--- Which calls only read, which change the state and set nothing off, which give up rights, and which copy one in.
+-- The calls that only read, that change the state without effects, that give up rights, and that copy a right in.
 abbrev pub only_reads : PlainCall → Bool
 only_reads (call.Attach space) = true
 only_reads call.Names = true
@@ -357,7 +357,7 @@ hands_over (call.ExtractRight name disposition) = true
 hands_over (call.SpaceCreate name disposition) = true
 hands_over c = false
 
--- a call that gives up rights leaves nothing open
+-- a call that gives up rights leaves no choice open
 pub gives_up_closed : (c : PlainCall) → gives_up c ≡ true → is_open c ≡ false
 gives_up_closed (call.Allocate kind) is = absurd (cc is)
 gives_up_closed (call.RequestNotification name variant sync notify_name disposition) is = absurd (cc is)
@@ -366,7 +366,7 @@ gives_up_closed (call.Receive limit large name waited) is = absurd (cc is)
 gives_up_closed (call.SpaceCreate name disposition) is = absurd (cc is)
 gives_up_closed c is = refl
 
--- nor does a call that only reads
+-- a call that only reads leaves no choice open
 pub reads_closed : (c : PlainCall) → only_reads c ≡ true → is_open c ≡ false
 reads_closed (call.Allocate kind) is = absurd (cc is)
 reads_closed (call.RequestNotification name variant sync notify_name disposition) is = absurd (cc is)

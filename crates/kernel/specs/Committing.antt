@@ -1,4 +1,4 @@
--- What is committed stays lawful.
+-- A committed step keeps the kernel's invariant.
 use Rattle.std.specs.Prelude.{◌≡◌, ℕ, Bool, true, false, IsTrue, refl}
 use Rattle.std.proofs.Common.{ap, sym, subst}
 use Rattle.ipc_model.specs.calls.Step.{Step, has_record, number_of_call}
@@ -17,7 +17,7 @@ use Rattle.ipc_state.specs.Running.{Running, at_rest}
 use Rattle.kernel.specs.Keeping.{state_of}
 use Rattle.kernel.specs.Unrecorded.{unrecorded_step}
 
--- the results of a call that has a record are in range
+-- the results of a recorded call fit its reply's encoding
 abbrev pub InRange : Call → Reply → Type 0
 InRange c answer =
     number_of_reply answer ≡ number_of_call c → HasItsResults c answer → IsTrue (has_record c answer)
@@ -41,13 +41,13 @@ step_lawful old space c answer new fits in_range lawful acyclic step = by (has_r
         subst (λ (s : State). LawfulState s × Acyclic s.ipc)
         (sym (unrecorded_step old space c answer new step none)) (lawful, acyclic)
 
--- what holds of a kernel's parts between calls
+-- the invariant of a kernel's parts between calls
 abbrev pub IsAtRest : Running → KeptReplies → Type 0
 IsAtRest running kept =
     LawfulState (state_of running.current kept) × Acyclic running.current × ShortQueues running.current
     × (running.before ≡ running.current)
 
--- it holds again after a step that was committed
+-- the invariant holds after a committed step
 pub committed : (old : State) (space : ℕ) (c : Call) (answer : Reply) (ipc : Ipc) (kept : KeptReplies)
     (running : Running) → running ≡ at_rest ipc → FitsCall c → InRange c answer → LawfulState old → Acyclic old.ipc
     → Step old space c answer (state_of ipc kept) → ShortQueues running.current → IsAtRest running kept

@@ -1,4 +1,4 @@
--- The rows of a snapshot, gathered one by one.
+-- The rows of a snapshot, copied one by one.
 use Rattle.std.proofs.Common.{◌≡◌, ℕ, ◌+◌, ◌^◌, ◌<◌, ◌≤◌, true, List, [], ◌∷◌, ◌++◌, map, Option, None, Some, is_some, append_assoc, append-nil, refl, sym, ◌∙◌, ap, arith}
 use Rattle.std.specs.Ordering.{nat_cmp}
 use Rattle.std.specs.FinMap as finmap
@@ -15,17 +15,17 @@ use Rattle.snapshot.specs.Rows.{named_row, port_row}
 use Rattle.snapshot.specs.declared.rows.LivePort.{LivePort}
 use Rattle.snapshot.specs.declared.rows.NamedEntry.{NamedEntry}
 
--- the row of a port, none where it is dead
+-- the row of a port, or no row if it is dead
 abbrev pub port_rows : ℕ → Option PortState → List LivePort
 port_rows serial None = []
 port_rows serial (Some port) = port_row (serial, port) ∷ []
 
--- what a space keeps
+-- the reply that a space keeps
 abbrev pub kept_row : KeptReplies → ℕ × Names → Option NumberedReply
 kept_row kept e = get kept e.0
 
 module _ {X R : Type 0} (row : ℕ × X → R) (m : FinMap {K = ℕ} nat_cmp X) where
-  -- what was gathered, and then the rows of what is left from a key on, is the whole
+  -- the rows so far, followed by the rows of the entries from key `at` on, are the rows of the whole map
   abbrev pub AreGathered : List R → ℕ → Type 0
   AreGathered rows at = rows ++ map row (entries_from m at) ≡ map row (entries m)
 
@@ -68,7 +68,7 @@ module _ {R : Type 0} (row : ℕ × Names → R) (state : Ipc) where
       there None none = absurd (cc none)
       there (Some names) _ = refl
 
-  -- no space is left: each has a number of 32 bits
+  -- no space is left, since each has a number of 32 bits
   pub spaces_all : (rows : List R) (at : ℕ) → Lawful state
       → ((q : ℕ) → at ≤ q → q < 2 ^ 32 → get state.spaces q ≡ None) → AreGathered row state.spaces rows at
       → rows ≡ map row (entries state.spaces)

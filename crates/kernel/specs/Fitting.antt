@@ -1,4 +1,4 @@
--- The reply of a step from a lawful state fits in a frame, and has the number of its call.
+-- The reply of a step from a lawful state fits in a frame and has the number of its call.
 use Rattle.std.specs.Prelude.{◌≡◌, ℕ, ◌≤◌, Bool, true, false, ◌==◌, [], length, Option, None, Some, List, if◌then◌else◌}
 use Rattle.std.proofs.Common.{refl, sym, ap, subst, arith, ◌∙◌, inl, inr}
 use Rattle.std.specs.FinMap as finmap
@@ -33,7 +33,7 @@ use Rattle.ipc_laws.specs.PlainRecorded.{longest_reply, plain_whole}
 use Rattle.ipc_laws.specs.RecordedSteps.{length-numbered_reply}
 use Rattle.kernel.specs.Unrecorded.{IsWithout, receive_without, send_without}
 
--- a reply of the call's number, no longer than such replies are
+-- the reply has the number of its call and isn't longer than the longest plain reply
 record IsPlainFitting (c : PlainCall) (answer : PlainReply) : Type 0 where
   pub number_is : number_of_reply answer ≡ number_of_call c
   pub bytes : length (reply_encoding answer) ≤ longest_reply
@@ -85,7 +85,7 @@ plain_fitting old space c answer new lawful step = by_case (has_record c answer)
 
 -- All calls.
 
--- a reply of the call's number that fits in a frame
+-- the reply has the number of its call and fits in a frame
 pub record IsFitting (c : Call) (answer : Reply) : Type 0 where
   pub number_is : task.number_of_reply answer ≡ step.number_of_call c
   pub bytes : length (task.reply_encoding answer) ≤ MAX_FRAME_CONTENT
@@ -116,7 +116,7 @@ made_fitting old space numbered answer new lawful is =
       bytes = omega (arith, length-numbered_reply is.given, fits.bytes);
     })
 
--- what is asked for again is kept
+-- the reply to a repeated request is the kept reply
 asked_is_kept : (o : Option NumberedReply) (request : ℕ) (kept : NumberedReply) → asked_again o request ≡ Some kept
     → o ≡ Some kept
 asked_is_kept None request kept is = absurd (cc is)

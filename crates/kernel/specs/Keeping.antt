@@ -1,4 +1,4 @@
--- What a call has its space keep.
+-- The kept replies after a call.
 use Rattle.std.specs.Prelude.{◌≡◌, ℕ, Bool, true, false, Option, None, Some, if◌then◌else◌, refl}
 use Rattle.std.proofs.Common.{◌∙◌, ap, sym, inl, inr}
 use Rattle.std.specs.Cmp.{nat_cmp_total}
@@ -17,21 +17,21 @@ use Rattle.ipc_model.specs.state.State.{KeptReplies, State}
 use Rattle.kernel.specs.declared.answering.Keeping.{Keeping}
 use Rattle.kernel.specs.declared.answering.Keeping.TheVariants.{Same, Nothing, Answer}
 
--- a state, of its two parts
+-- a state from its two parts
 abbrev pub state_of : Ipc → KeptReplies → State
 state_of ipc kept = record { ipc = ipc; kept = kept }
 
--- what the spaces keep, once a call has its space keep this
+-- the kept replies after a call that leaves this
 abbrev pub kept_by : Keeping → KeptReplies → ℕ → KeptReplies
 kept_by Same kept space = kept
 kept_by Nothing kept space = finmap.remove kept space
 kept_by (Answer answer) kept space = finmap.insert kept space answer
 
--- after a plain call, nothing if its space is removed
+-- a plain call leaves nothing if it removes its space
 abbrev pub keeping_plain : PlainCall → PlainReply → Keeping
 keeping_plain c answer = if removes_space c answer then Nothing else Same
 
--- after a numbered call that was made, its reply if it has a record
+-- a numbered call that was made leaves its reply, if it is recorded
 abbrev pub keeping_numbered : PlainCall → NumberedReply → Keeping
 keeping_numbered c given = if has_record c given.reply then Answer given else Same
 
@@ -53,12 +53,12 @@ kept_numbered kept space c given = by (has_record c given.reply)
     by true = refl
     by false = refl
 
--- what the spaces keep, where this one keeps again what it kept before
+-- the kept replies after the space's former one is restored
 abbrev pub put_back : KeptReplies → ℕ → Option NumberedReply → KeptReplies
 put_back kept space None = finmap.remove kept space
 put_back kept space (Some given) = finmap.insert kept space given
 
--- that undoes what a call had it keep
+-- restoring undoes the insertion of a call's reply
 pub back_again : (kept : KeptReplies) (space : ℕ) (given : NumberedReply) (before : Option NumberedReply)
     → finmap.get kept space ≡ before → put_back (finmap.insert kept space given) space before ≡ kept
 back_again kept space given (Some kept_before) is =

@@ -1,4 +1,4 @@
--- Records that are replayed.
+-- The replay of records.
 use Rattle.std.specs.Prelude.{◌≡◌, ℕ, Some, refl}
 use Rattle.std.proofs.Common.{inl, inr}
 use Rattle.std.specs.FinMap as finmap
@@ -10,7 +10,7 @@ use Rattle.ipc_model.specs.declared.reply.Reply.{Reply}
 use Rattle.ipc_model.specs.declared.reply.Reply.TheVariants as reply
 use Rattle.ipc_model.specs.state.State.{KeptReplies, State}
 
--- the space keeps this numbered call already, with this reply
+-- the space already keeps the reply of this numbered call, and it is this one
 abbrev pub KeepsAlready : KeptReplies → ℕ → Call → Reply → Type 0
 KeepsAlready kept space (Numbered numbered) (reply.Numbered answer) =
     (finmap.get kept space ≡ Some answer) × (answer.request ≡ numbered.request)
@@ -32,7 +32,7 @@ keeps_already old space (Numbered numbered) (reply.Plain answer) new is = absurd
 keeps_already old space (Numbered numbered) (reply.Repeated answer) new is = absurd is
 keeps_already old space (Numbered numbered) (reply.Numbered answer) new is = (is.0, is.1)
 
--- a record that isn't kept already, and is of no step, isn't replayed
+-- a record that neither is kept already nor has a step isn't replayed
 pub replays_not : (old : State) (entry : Record) (new : State)
     → (KeepsAlready old.kept entry.space entry.call entry.reply → ⊥)
     → (Step old entry.space entry.call entry.reply new → ⊥) → Replays old entry new → ⊥

@@ -1,4 +1,4 @@
--- What spaces keep, in the rows of a snapshot and as a finite map.
+-- Kept replies, in the rows of a snapshot and as a finite map.
 use Rattle.std.specs.Prelude.{◌≡◌, ◌≢◌, ℕ, ◌+◌, ◌≤◌, ◌<◌, true, All, List, [], ◌∷◌, length, map, Option, None, Some, is_some, refl}
 use Rattle.std.proofs.Common.{◌∙◌, ap, sym, subst, inl, inr, arith}
 use Rattle.std.proofs.lemmas.List.Elements.{All-nil, All-cons, All-head, All-tail}
@@ -24,12 +24,12 @@ use Rattle.snapshot.specs.declared.rows.IpcSnapshot.{IpcSnapshot}
 use Rattle.snapshot.specs.declared.rows.Snapshot.{Snapshot}
 use Rattle.snapshot.specs.declared.rows.Space.{Space}
 
--- what a space may keep
+-- a row of the kept replies is empty, or a reply that may be kept
 abbrev pub MayStay : Option NumberedReply → Type 0
 MayStay None = Unit {0}
 MayStay (Some answer) = IsKeptReply answer
 
--- There is a row for each space, of what it may keep.
+-- There is one row for each space, and each reply in the rows may be kept.
 abbrev pub AreKept : List Space → List (Option NumberedReply) → Type 0
 AreKept spaces rows = (length spaces ≡ length rows) × All MayStay rows
 
@@ -53,7 +53,7 @@ put_nothing kept (space ∷ spaces) = refl
 abbrev pub kept_in_rows : List Space → List (Option NumberedReply) → KeptReplies
 kept_in_rows spaces rows = put_rows finmap.empty spaces rows
 
--- One row.
+-- A single row.
 
 put_other : (kept : KeptReplies) (space : ℕ) (row : Option NumberedReply) (q : ℕ) → q ≢ space
     → finmap.get (put_row kept space row) q ≡ finmap.get kept q
@@ -94,7 +94,7 @@ rows_back (space ∷ spaces) (row ∷ rows) kept at ascends long none =
     ∙ none q (omega (arith, le, ascends.0))) in
     λ i. head i ∷ tail i
 
--- What a space keeps stands in its row.
+-- The kept reply of a space is in its row.
 
 module _ (There : ℕ → Type 0) where
   abbrev KeptThere : KeptReplies → Type 0
@@ -152,7 +152,7 @@ module _ (snapshot : Snapshot) (ipc : Ipc) (same : snapshot.ipc ≡ ipc_snapshot
       (all_entries (λ (e : ℕ × Names). is_some (finmap.get ipc.spaces e.0) ≡ true) ipc.spaces
       (λ k names at. ap is_some at)))
 
-  -- The state that the snapshot is of.
+  -- The state of the snapshot.
   pub restored_same : (kept : KeptReplies) → AreKept snapshot.ipc.spaces snapshot.kept
       → kept ≡ kept_in_rows snapshot.ipc.spaces snapshot.kept → snapshot ≡ snapshot_of (state_of ipc kept)
   unfolding snapshot_of
@@ -175,7 +175,7 @@ module _ (snapshot : Snapshot) (ipc : Ipc) (same : snapshot.ipc ≡ ipc_snapshot
         (ap (λ (k : KeptReplies). finmap.get k space) (sym is) ∙ at);
   }
 
--- A snapshot is lawful exactly if its IPC state is, and each reply is one that its space may keep.
+-- A snapshot is lawful exactly if its IPC state is lawful and each reply may be kept by its space.
 pub lawful_snapshot : (snapshot : Snapshot) → IsLawfulIpc snapshot.ipc → AreKept snapshot.ipc.spaces snapshot.kept
     → IsLawfulSnapshot snapshot
 lawful_snapshot snapshot is are = record {
@@ -216,7 +216,7 @@ snapshot_kept snapshot is =
       (mapped_long space_row (kept_row is.state.kept) es, may_stay is.state is.lawful es),
     )
 
--- A snapshot is that of one lawful state at most.
+-- A snapshot is of at most one lawful state.
 
 heads : (a b : Option NumberedReply) (xs ys : List (Option NumberedReply)) → a ∷ xs ≡ b ∷ ys → (a ≡ b) × (xs ≡ ys)
 heads a b xs ys same = (cc same, cc same)

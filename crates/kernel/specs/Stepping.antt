@@ -1,4 +1,4 @@
--- Steps, from the call's own action and what it sets off.
+-- Steps, composed of the call's own action and its effects.
 use Rattle.std.specs.Prelude.{◌≡◌, ℕ, false, true, List, [], Option, None, Some, IsSome, IfSome, IfNone, is_some}
 use Rattle.std.proofs.Common.{refl, sym, ap, subst, ◌∙◌}
 use Rattle.std.specs.FinMap as finmap
@@ -17,12 +17,12 @@ use Rattle.kernel.specs.Choosing.{Prefers, shown_by}
 use Rattle.kernel.specs.Trials.{done_acting, refused_acting}
 use Rattle.port_calls.specs.Trying.{Tries, is_refusal}
 
--- If the call may get a reply that shows this, it gets that reply.
+-- If a reply that shows these choices is possible, it is this reply.
 pub record PrefersStep (old : Ipc) (space : ℕ) (c : PlainCall) (shown : Shown) (answer : PlainReply) : Type 0 where
   pub takes : (other : PlainReply) (new : Ipc) → shown ≡ shown_by other → PlainStep old space c other new
       → answer ≡ other
 
--- A caller whose space exists.
+-- The caller's space exists.
 
 or_empty : Option Names → Names
 or_empty None = finmap.empty
@@ -44,7 +44,7 @@ there_from old space None c answer new effects is there acts = absurd (cc there)
 there_from old space (Some names) c answer new effects is there acts =
     subst (λ (n : Names). ActsIn old space n c answer new effects) (sym (ap or_empty is)) acts
 
--- A call acted, and what it set off has settled.
+-- A call acted, and its effects were drained.
 pub step_settled : (old : Ipc) (space : ℕ) (c : PlainCall) (answer : PlainReply) (mid new : Ipc) (effects : List Effect)
     → IsSome (finmap.get old.spaces space)
     → ActsIn old space (names_in old space) c answer mid effects → Settles mid effects new
@@ -53,13 +53,13 @@ unfolding PlainStep
 step_settled old space c answer mid new effects there acts ends =
     (mid, effects, from_there old space (finmap.get old.spaces space) c answer mid effects refl there acts, ends)
 
--- A call acted, and set nothing off.
+-- A call acted, and had no effects.
 pub step_alone : (old : Ipc) (space : ℕ) (c : PlainCall) (answer : PlainReply) (new : Ipc)
     → IsSome (finmap.get old.spaces space)
     → ActsIn old space (names_in old space) c answer new [] → PlainStep old space c answer new
 step_alone old space c answer new there acts = step_settled old space c answer new new [] there acts settled
 
--- A caller whose space is gone.
+-- The caller's space is gone.
 gone_from : (old : Ipc) (space : ℕ) (o : Option Names) (c : PlainCall) (answer : PlainReply) → is_some o ≡ false
     → answer ≡ refused c InvalidTask → ActsFrom old space o c answer old []
 gone_from old space None c answer gone is = (is, refl, refl)
@@ -98,7 +98,7 @@ prefers_gone old space c shown answer gone is =
           ∙ sym (from_gone old space (finmap.get old.spaces space) c other step.0 step.1 gone step.2);
     }
 
--- Calls that were tried on a copy.
+-- Calls that are tried on a copy.
 
 pub step_tried : (old : Ipc) (space : ℕ) (c : PlainCall) (answer : PlainReply) (mid new : Ipc) (effects : List Effect)
     → IsSome (finmap.get old.spaces space)
@@ -113,14 +113,14 @@ pub step_refused : (old : Ipc) (space : ℕ) (c : PlainCall) (answer : PlainRepl
 step_refused old space c answer mid effects there refused tries =
     step_alone old space c answer old there (refused_acting old space c answer mid effects refused tries)
 
--- what a clause says of the value of an option
+-- the fact about an option's value, if the value is known
 pub of_some : {X : Type 0} (P : X → Type 0) (o : Option X) (x : X) → o ≡ Some x → IfSome o P → P x
 of_some P o x is holds = subst (λ (p : Option _). IfSome p P) is holds
 
 pub of_none : {X : Type 0} (P : Type 0) (o : Option X) → o ≡ None → IfNone o P → P
 of_none P o is holds = subst (λ (p : Option _). IfNone p P) is holds
 
--- a refusal by the call's number
+-- a refusal with the call's number is the refusal of the call
 pub refused_by_number : (c : PlainCall) (code : KernReturn) → refused_of (number_of_call c) code ≡ refused c code
 refused_by_number (call.Send message) code = refl
 refused_by_number (call.Receive limit large name waited) code = refl

@@ -1,4 +1,5 @@
--- Calls that are tried on a copy of the state: what a refused call left, and what a done one did.
+-- Calls that are tried on a copy of the state: a refused call leaves the state unchanged, and a done call acted on the
+-- copy.
 use Rattle.std.specs.Prelude.{◌≡◌, ℕ, Bool, true, false, List, [], Option, None, Some, MatchBool}
 use Rattle.std.proofs.Common.{refl, sym, subst}
 use Rattle.codes.specs.declared.kern_return.KernReturn.{KernReturn}
@@ -19,7 +20,7 @@ Tried refused old space c answer new effects =
     MatchBool refused (ActsIn old space (names_in old space) c answer old [])
     (ActsIn old space (names_in old space) c answer new effects)
 
--- a call that was tried acted, on the state from before or on the copy
+-- a call that was tried acted on some state: the one before, or the copy
 pub acted : (old : Ipc) (space : ℕ) (c : PlainCall) (answer : PlainReply) (new : Ipc) (effects : List Effect)
     → Tries old space c answer new effects
     → (last : Ipc) × (others : List Effect) × ActsIn old space (names_in old space) c answer last others
@@ -34,7 +35,7 @@ not_refused : (answer : PlainReply) → succeeded answer ≡ true → is_refusal
 not_refused (reply.Refused number code) success = absurd (cc success)
 not_refused answer success = refl
 
--- A call that acts like this changes nothing where it is refused.
+-- A refused call that acts on ports changes nothing.
 pub tries_acting : (old : Ipc) (space : ℕ) (c : PlainCall) (answer : PlainReply) (new : Ipc) (effects : List Effect)
     → is_port_call c ≡ true → ActsIn old space (names_in old space) c answer new effects
     → Tries old space c answer new effects
@@ -58,7 +59,7 @@ tries_acting old space c answer new effects port acts =
         (λ (s : Ipc). ActsIn old space (names_in old space) c answer s []) called.1
         (subst (λ (l : List Effect). ActsIn old space (names_in old space) c answer new l) called.2 acts)) acts
 
--- a refused call left the state as it was
+-- a refused call leaves the state unchanged
 pub refused_acting : (old : Ipc) (space : ℕ) (c : PlainCall) (answer : PlainReply) (new : Ipc) (effects : List Effect)
     → is_refusal answer ≡ true → Tries old space c answer new effects
     → ActsIn old space (names_in old space) c answer old []

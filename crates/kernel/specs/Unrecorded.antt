@@ -1,5 +1,5 @@
--- A step without a record changes nothing: its call was refused, or only reads, or left a message that was too large
--- where it was.
+-- A step that isn't recorded changes nothing: its call was refused, only reads, or left a message in the queue that was
+-- too large.
 use Rattle.std.specs.Prelude.{◌≡◌, ℕ, Bool, true, false, ◌&&◌, ◌||◌, List, [], Option, None, Some, Result, Ok, Err, MatchOption, if◌then◌else◌}
 use Rattle.std.proofs.Common.{refl, ap, sym, subst, ◌∙◌, inl, inr}
 use Rattle.std.specs.FinMap as finmap
@@ -33,7 +33,7 @@ use Rattle.ipc_laws.specs.RecordedReceives.{call_of}
 use Rattle.ipc_laws.specs.StepLaws.{one_end}
 use Rattle.kernel.specs.Choosing.{SentAs}
 
--- A send or a receive without a record: it answers a code and no message, and nothing changes.
+-- A send or a receive that isn't recorded: its reply has a code and no message, and nothing changes.
 pub record IsWithout (old : Ipc) (answer : PlainReply) (new : Ipc) (effects : List Effect) : Type 0 where
   pub code : KernReturn
   pub size : ℕ
@@ -47,7 +47,7 @@ refused_without : (code : KernReturn) (old : Ipc) (answer : PlainReply) (new : I
 refused_without code old answer new effects acts =
     record { code = code; size = 0; member = MACH_PORT_NULL; answer_is = acts.0; same = acts.1; none = acts.2 }
 
--- a call with this answer has a record
+-- a call with this reply is recorded, which contradicts the last premise
 recorded_as : {X : Type 0} (c : PlainCall) (given answer : PlainReply) → has_record c given ≡ true → answer ≡ given
     → has_record c answer ≡ false → X
 recorded_as c given answer recorded is none = absurd (cc (none, ap (has_record c) is ∙ recorded))
@@ -148,7 +148,7 @@ from_unrecorded None old space c answer new effects none acts = (acts.1, acts.2)
 from_unrecorded (Some names) old space c answer new effects none acts =
     acts_unrecorded c old space names answer new effects none acts
 
--- a plain step without a record
+-- a plain step that isn't recorded changes nothing
 pub unrecorded_plain : (old : Ipc) (space : ℕ) (c : PlainCall) (answer : PlainReply) (new : Ipc)
     → PlainStep old space c answer new → has_record c answer ≡ false → new ≡ old
 unfolding PlainStep
@@ -157,7 +157,7 @@ unrecorded_plain old space c answer new step none =
     let ends : Settles step.0 [] new = subst (λ (effects : List Effect). Settles step.0 effects new) same.1 step.3 in
     one_end step.0 [] new step.0 ends settled ∙ same.0
 
--- The replies that spaces keep.
+-- The kept replies.
 
 removes_recorded : (c : PlainCall) (answer : PlainReply) → has_record c answer ≡ false → removes_space c answer ≡ false
 removes_recorded call.SpaceDestroy answer none = by (succeeded answer) refl

@@ -1,4 +1,4 @@
-//! A task's call, made on the IPC state, with what its space is to keep. Nothing is committed here.
+//! Makes a task's call on the IPC state, and says what the space keeps of it. Nothing is committed here.
 ghost use Rattle.std.specs.Prelude.{◌≡◌, ◌≤◌, true, false, length, None, IfOk, IfSome, IfNone};
 ghost use Rattle.std.specs.FinMap as map;
 ghost use Rattle.codes.specs.declared.limits.TheConstants.{MAX_FRAME_CONTENT};
@@ -20,26 +20,26 @@ use number_table::NumberTable;
 use port_calls::IpcState;
 use std::alloc::{AllocError, Global};
 
-/// What a call's space keeps, once the call is committed.
+/// The kept reply of a space once its call is committed.
 #[derive(Drop)]
 pub enum Keeping {
-    /// What it kept before.
+    /// The reply that the space kept before the call.
     Same,
-    /// Nothing: the space is removed.
+    /// Nothing: the call removed the space.
     Nothing,
     /// The reply to a numbered call.
     Answer(NumberedReply),
 }
 
-/// A call that was made, and isn't committed yet.
+/// A call that was made but isn't committed yet.
 #[derive(Drop)]
 pub struct Answered {
     pub reply: Reply,
     pub keeping: Keeping,
 }
 
-/// Makes one step of the machine: the call of a task of this space. If the call may be answered by a reply that shows
-/// this, it is. The changes must then be committed, or rolled back if an allocation failed.
+/// Makes one step of the machine: the call of a task in this space. If a reply that shows these choices is possible, it
+/// is the reply. The changes must then be committed, or rolled back if an allocation failed.
 pub fn answer_call(
     alloc: Global,
     state: &mut IpcState,
@@ -78,8 +78,8 @@ pub fn answer_call(
     }
 }
 
-/// What `answer_call` answers to a call that has no record; `None` if the step has one. The changes must be rolled
-/// back.
+/// Returns the reply of `answer_call` to a call whose step isn't recorded, or `None` if the step is recorded. The
+/// changes must be rolled back.
 pub fn try_answer(
     alloc: Global,
     state: &mut IpcState,
@@ -108,7 +108,7 @@ pub fn try_answer(
     Ok(Some(reply))
 }
 
-/// Answers a numbered call: it is refused, or had been made before, or is made.
+/// Answers a numbered call: refuses it, returns the reply that the space keeps, or makes it.
 fn answer_numbered(
     alloc: Global,
     state: &mut IpcState,
@@ -151,7 +151,7 @@ fn answer_numbered(
     }
 }
 
-/// Number 22 is refused with this code.
+/// Returns the refusal of number 22 with this code.
 fn refusal(code: KernReturn) -> Answered
     ensures reply { result.reply ≡ Reply.Plain (PlainReply.Refused NUMBERED code) }
     ensures keeping { result.keeping ≡ Keeping.Same }
@@ -165,7 +165,7 @@ fn refusal(code: KernReturn) -> Answered
     }
 }
 
-/// What a space keeps after a plain call.
+/// Returns what a space keeps after a plain call.
 fn keeping_plain(call: &PlainCall, reply: &PlainReply) -> Keeping
     ensures { result ≡ keeping_plain call.now reply.now }
 {
@@ -181,7 +181,7 @@ fn keeping_plain(call: &PlainCall, reply: &PlainReply) -> Keeping
     }
 }
 
-/// What a space keeps after a numbered call that was made: its reply, if it has a record.
+/// Returns what a space keeps after a numbered call that was made: the reply, if the call is recorded.
 fn keeping_numbered(
     alloc: Global,
     call: &PlainCall,

@@ -8,21 +8,21 @@ use ipc_model::{PlainReply, Sequence};
 use receiving::{Preference, names_shown};
 use std::alloc::{AllocError, Global};
 
-/// What a reply shows of the choices that its call leaves open.
+/// The choices that a reply shows, among those that its call leaves open.
 #[derive(Drop)]
 pub struct Shown {
-    /// A name that a right got.
+    /// The name of a new right.
     pub name: Option<u32>,
-    /// The number of a new space, and its name.
+    /// The number of a new space, and its first name.
     pub space: Option<(u32, u32)>,
-    /// Which message was received.
+    /// Selects the message that was received.
     pub preference: Preference,
-    /// The names that the rights of a received message got.
+    /// The new names of the rights in a received message.
     pub names: Sequence<u32>,
 }
 
 impl Shown {
-    /// Nothing is shown: the least unused names and numbers are chosen. It takes no memory.
+    /// Returns no choices: the least unused names and numbers are chosen. It allocates nothing.
     pub fn nothing(alloc: Global) -> Shown {
         Shown {
             name: None,
@@ -32,7 +32,7 @@ impl Shown {
         }
     }
 
-    /// What a reply shows.
+    /// Returns the choices that a reply shows.
     pub fn of(alloc: Global, reply: &PlainReply) -> Result<Shown, AllocError>
         ensures { IfOk result (λ shown. shown ≡ choosing.shown_by reply.now) }
     {
@@ -46,7 +46,7 @@ impl Shown {
     }
 }
 
-/// The name that was chosen, if the reply shows one.
+/// Returns the name that was chosen, if the reply shows one.
 fn name_shown(reply: &PlainReply) -> Option<u32>
     ensures { result ≡ choosing.name_shown reply.now }
 {
@@ -58,7 +58,7 @@ fn name_shown(reply: &PlainReply) -> Option<u32>
     }
 }
 
-/// The number of a new space and its name, if the reply shows them.
+/// Returns the number of a new space and its name, if the reply shows them.
 fn space_shown(reply: &PlainReply) -> Option<(u32, u32)>
     ensures { result ≡ choosing.space_shown reply.now }
 {
@@ -68,7 +68,7 @@ fn space_shown(reply: &PlainReply) -> Option<(u32, u32)>
     }
 }
 
-/// Which message was received: the reply names its port, unless the space lacked names.
+/// Returns the selector of the received message. The reply names its port, unless the space lacked names.
 fn preferred_by(reply: &PlainReply) -> Preference
     ensures { result ≡ shows.preferred_by reply.now }
 {
@@ -82,7 +82,7 @@ fn preferred_by(reply: &PlainReply) -> Preference
     }
 }
 
-/// The bytes of the message that was received.
+/// Returns the bytes of the message that was received.
 fn encoding_in(reply: &PlainReply) -> &[u8]
     ensures { result.now ≡ shows.encoding_in reply.now }
 {

@@ -1,4 +1,4 @@
-//! The state as plain rows.
+//! Copies the kernel's state as plain rows.
 ghost use Rattle.std.specs.Prelude.{◌≡◌, ◌++◌, IfOk, OnOk, map as mapped, option_copied};
 ghost use Rattle.std.specs.FinMap as map;
 ghost use Rattle.ipc_model.specs.calls.PortCalls.{names_in};
@@ -15,9 +15,9 @@ use snapshot::{IpcSnapshot, LivePort, NamedEntry, Snapshot, Space};
 use std::alloc::{AllocError, Global};
 
 impl Kernel {
-    /// The state as plain rows: its spaces with their names and with the replies that they keep, and its live ports
-    /// with the messages in their queues, where `MACH_PORT_DEAD` stands in place of ports that have died. If an
-    /// allocation fails, nothing changed.
+    /// Returns the state as plain rows: the spaces with their names and with the replies that they keep, and the live
+    /// ports with their queued messages, in which `MACH_PORT_DEAD` replaces dead ports. If an allocation fails, nothing
+    /// changed.
     #[tactic(auto, unfolding(snapshot::specs::Snapshots::snapshot_of))]
     pub fn copy(&self, alloc: Global) -> Result<Snapshot, AllocError>
         ensures { IfOk result (λ copy. copy ≡ snapshot_of self.now) }
@@ -31,7 +31,7 @@ impl Kernel {
     }
 }
 
-/// The spaces and the live ports.
+/// Copies the spaces and the live ports.
 #[tactic(auto, unfolding(snapshot::specs::Snapshots::ipc_snapshot_of))]
 fn copy_ipc(alloc: Global, state: &IpcState) -> Result<IpcSnapshot, AllocError>
     requires { Lawful state.now.current }
@@ -46,7 +46,7 @@ fn copy_ipc(alloc: Global, state: &IpcState) -> Result<IpcSnapshot, AllocError>
     })
 }
 
-/// What the spaces keep, in ascending order of their numbers.
+/// Copies the kept replies, in ascending order of their spaces.
 fn kept_of(
     alloc: Global,
     state: &IpcState,
@@ -65,7 +65,7 @@ fn kept_of(
     Ok(rows)
 }
 
-/// What a space keeps, again.
+/// Copies the reply that a space keeps.
 fn copy_kept(
     alloc: Global,
     kept: Option<&NumberedReply>,
@@ -79,7 +79,7 @@ fn copy_kept(
     Ok(Some(copy))
 }
 
-/// The spaces in ascending order, each with its names.
+/// Copies the spaces in ascending order, each with its names.
 fn spaces_of(alloc: Global, state: &IpcState) -> Result<Vec<Space>, AllocError>
     requires { Lawful state.now.current }
     ensures { IfOk result (λ spaces. spaces.items ≡ mapped space_row (map.entries state.now.current.spaces)) }
@@ -97,7 +97,7 @@ fn spaces_of(alloc: Global, state: &IpcState) -> Result<Vec<Space>, AllocError>
     Ok(spaces)
 }
 
-/// The names of a space, in ascending order.
+/// Copies the names of a space, in ascending order.
 fn names_of(alloc: Global, state: &IpcState, space: u32) -> Result<Vec<NamedEntry>, AllocError>
     ensures { IfOk result (λ names. names.items ≡ names_of (names_in state.now.current space)) }
 {
@@ -110,7 +110,7 @@ fn names_of(alloc: Global, state: &IpcState, space: u32) -> Result<Vec<NamedEntr
     Ok(names)
 }
 
-/// The live ports, in ascending order of serials.
+/// Copies the live ports, in ascending order of serials.
 fn ports_of(alloc: Global, state: &IpcState) -> Result<Vec<LivePort>, AllocError>
     ensures { IfOk result (λ ports. ports.items ≡ mapped port_row (map.entries state.now.current.ports)) }
 {
@@ -123,7 +123,7 @@ fn ports_of(alloc: Global, state: &IpcState) -> Result<Vec<LivePort>, AllocError
     Ok(ports)
 }
 
-/// Adds a port, if it lives.
+/// Appends the row of a port if it is live.
 fn push_port(
     alloc: Global,
     state: &IpcState,

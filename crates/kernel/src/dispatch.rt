@@ -16,7 +16,7 @@ use port_calls::{IpcState, NoticeRequest};
 use receiving::{Asked, receive};
 use std::alloc::{AllocError, Global};
 
-/// The reply to a call that only reads; `None` for other calls.
+/// Returns the reply to a call that only reads, or `None` for another call.
 pub fn read(
     alloc: Global,
     state: &IpcState,
@@ -50,8 +50,8 @@ pub fn read(
     }
 }
 
-/// Makes a call that changes the state and sets nothing off; `None` for other calls. If an allocation fails, the
-/// changes must be rolled back.
+/// Makes a call that changes the state and has no effects, or returns `None` for another call. If an allocation fails,
+/// the changes must be rolled back.
 pub fn change(
     alloc: Global,
     state: &mut IpcState,
@@ -104,8 +104,8 @@ pub fn change(
     }
 }
 
-/// Makes a call that gives rights up. If it is refused or an allocation fails, the changes must be rolled back; `None`
-/// for other calls.
+/// Makes a call that gives up rights, or returns `None` for another call. If the call is refused or an allocation
+/// fails, the changes must be rolled back.
 pub fn give_rights_up(
     alloc: Global,
     state: &mut IpcState,
@@ -143,8 +143,8 @@ pub fn give_rights_up(
     }
 }
 
-/// Makes a call that copies a right in. If it is refused or an allocation fails, the changes must be rolled back;
-/// `None` for other calls.
+/// Makes a call that copies a right in, or returns `None` for another call. If the call is refused or an allocation
+/// fails, the changes must be rolled back.
 pub fn hand_over(
     alloc: Global,
     state: &mut IpcState,
@@ -223,7 +223,8 @@ pub fn hand_over(
     }
 }
 
-/// Makes a send or a receive; `None` for other calls. If an allocation fails, the changes must be rolled back.
+/// Makes a send or a receive, or returns `None` for another call. If an allocation fails, the changes must be rolled
+/// back.
 pub fn exchange(
     alloc: Global,
     state: &mut IpcState,

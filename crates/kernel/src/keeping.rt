@@ -1,4 +1,4 @@
-//! What spaces keep, changed before a record is written or after it.
+//! Updates the kept reply of a space, before or after the call's record is written.
 ghost use Rattle.std.specs.Prelude.{◌≡◌, true, false, Some, None, IsSome, IfOk, OnOk, OnErr, MatchOption};
 ghost use Rattle.std.specs.FinMap as map;
 ghost use Rattle.ipc_model.specs.calls.Step.{has_record};
@@ -11,7 +11,7 @@ use ipc_model::{Call, NumberedReply, Reply};
 use number_table::NumberTable;
 use std::alloc::AllocError;
 
-/// Has a space keep what its call leaves it. If an allocation fails, nothing changed.
+/// Updates the kept reply of a space after a call. If an allocation fails, nothing changed.
 pub fn keep(
     kept: &mut NumberTable<NumberedReply>,
     space: u32,
@@ -32,8 +32,8 @@ pub fn keep(
     Ok(())
 }
 
-/// Has a space keep what its call leaves it, and the call's record written, if it has one. If an allocation fails,
-/// nothing changed: what needs room in the table is done before the record is written, and put back.
+/// Updates the kept reply of a space after a call, and writes the call's record, if it is recorded. If an allocation
+/// fails, nothing changed: an update that may allocate comes before the record, and is undone if the record fails.
 pub fn keep_recorded<R: Recorder>(
     kept: &mut NumberTable<NumberedReply>,
     space: u32,
@@ -73,7 +73,7 @@ pub fn keep_recorded<R: Recorder>(
     }
 }
 
-/// Has a call's record written, if it has one.
+/// Writes a call's record, if the call is recorded.
 fn write_record<R: Recorder>(
     space: u32,
     call: &Call,
@@ -94,7 +94,7 @@ fn write_record<R: Recorder>(
     Ok(())
 }
 
-/// Has a space keep what it kept before, in place of what it keeps now. It takes no memory.
+/// Restores the reply that a space kept before. It allocates nothing.
 fn put_back(kept: &mut NumberTable<NumberedReply>, space: u32, before: Option<NumberedReply>)
     requires { IsSome (map.get kept.old space) }
     ensures { kept.new ≡ put_back kept.old space before }
@@ -104,7 +104,7 @@ fn put_back(kept: &mut NumberTable<NumberedReply>, space: u32, before: Option<Nu
             let _ = kept.remove(space);
         }
         Some(given) => {
-            // The space keeps something, so there is room.
+            // The space has a kept reply, so its slot is allocated.
             let _ = kept.insert(space, given);
         }
     }

@@ -24,7 +24,7 @@ use std::alloc::{AllocError, Global};
 use std::marker::Model;
 use waiting::Places;
 
-/// Why a record couldn't be replayed.
+/// The reason why a record couldn't be replayed.
 #[derive(Clone, Copy, Debug, PartialEq, Eq)]
 pub enum ReplayFault {
     /// The machine has no such step.
@@ -48,11 +48,11 @@ impl From<AllocError> for ReplayFault {
 pub struct Kernel {
     pub(crate) alloc: Global,
     pub(crate) state: IpcState,
-    /// For each space, the reply that it keeps.
+    /// The reply that each space keeps.
     pub(crate) kept: NumberTable<NumberedReply>,
 }
 
-// Written out, so that proofs above know one function and not its parts.
+// Written by hand, so that proofs of the crates above depend on one function instead of its parts.
 impl Drop for Kernel {
     fn drop(self) {
         let Kernel {
@@ -80,14 +80,14 @@ impl Model for Kernel {
     ghost view = { λ k. record { ipc = k.state.current; kept = k.kept } };
 
     // Each live port has one receive right, each right names a live port, no ports carry one another in a cycle, and no
-    // queue is too long for an image. Each reply is kept by a space that is there, and is one that a space may keep.
-    // Between calls there is no change to commit or to roll back.
+    // queue is too long for an image. Each kept reply belongs to a space that exists, and may be kept. Between calls
+    // there are no changes to commit or to roll back.
     ghost invariant = { λ k. LawfulState (record { ipc = k.state.current; kept = k.kept }) × Acyclic k.state.current
         × ShortQueues k.state.current × (k.state.before ≡ k.state.current) };
 }
 
 impl Kernel {
-    /// The state of a new store: space 1 without names, and no port.
+    /// Creates the state of a new store: space 1 without names, and no port.
     pub fn opening(alloc: Global) -> Result<Self, AllocError>
         ensures { IfOk result (λ kernel. kernel ≡ opening_state) }
     {
@@ -100,7 +100,7 @@ impl Kernel {
         })
     }
 
-    /// Shows that an image can encode the state, which is lawful. It does nothing else.
+    /// Proves that an image can encode the state, because it is lawful. It does nothing else.
     pub fn show_image(&self)
         ensures encoded { Encodable self.now }
         ensures lawful { LawfulState self.now }
@@ -110,10 +110,11 @@ impl Kernel {
         let _ = &self.state;
     }
 
-    /// Makes one step of the machine: the call of a task of this space. If an allocation fails, nothing changed.
+    /// Makes one step of the machine: the call of a task in this space. If an allocation fails, nothing changed.
     pub fn apply(&mut self, space: u32, call: &Call) -> Result<Reply, AllocError>
         ensures step { IfOk result (λ reply. Step self.old space call.now reply self.new) }
-        // The reply has the call's number, and fits in a frame; if the call has a record, this is a possible one.
+        // The reply has the call's number and fits in a frame. If the step is recorded, call and reply form a valid
+        // record.
         ensures number { IfOk result (λ reply. number_of_reply reply ≡ number_of_call call.now) }
         ensures recorded { IfOk result (λ reply. has_record call.now reply ≡ true → IsAnsweredWhole call.now reply) }
         ensures fits { IfOk result (λ reply. length (reply_encoding reply) ≤ MAX_FRAME_CONTENT) }
@@ -141,10 +142,10 @@ impl Kernel {
         }
     }
 
-    /// Makes one step of the machine as `apply` does, and has its record written before the step is committed. If an
-    /// allocation fails, neither the kernel nor the recorder changed.
+    /// Makes one step of the machine as `apply` does, and writes its record, if it is recorded, before it commits the
+    /// step. If an allocation fails, neither the kernel nor the recorder changed.
     ///
-    /// It names the places at which the step may have given a waiting call something to do: no wake-up is lost.
+    /// Reports the places at which a waiting call may now succeed. No wake-up is lost.
     pub fn apply_recorded<R: Recorder>(
         &mut self,
         space: u32,
@@ -185,7 +186,8 @@ impl Kernel {
         }
     }
 
-    /// What `apply` answers to a call that has no record; `None` if a step of the call has one. It changes nothing.
+    /// Returns the reply of `apply` to a call whose step isn't recorded, or `None` if some step of the call is
+    /// recorded. It changes nothing.
     pub fn answer(&self, space: u32, call: &Call) -> Result<Option<Reply>, AllocError>
         ensures answered { IfOk result (λ answer. IfSome answer
             (λ reply. Step self.now space call.now reply self.now × (has_record call.now reply ≡ false))) }
@@ -200,7 +202,7 @@ impl Kernel {
         answer
     }
 
-    /// Another kernel with the same state, made of its plain rows.
+    /// Returns a second kernel with the same state, built from its plain rows.
     fn again(&self) -> Result<Kernel, AllocError>
         ensures { IfOk result (λ other. other ≡ self.now) }
     {
@@ -210,12 +212,12 @@ impl Kernel {
                 kernel.show_image();
                 Ok(kernel)
             }
-            // The rows of a lawful state are lawful, so memory ran out.
+            // The rows of a lawful state are lawful, so the fault is out of memory.
             Err(_) => Err(AllocError),
         }
     }
 
-    /// What `answer` answers, without a copy of the state: the call is made and rolled back.
+    /// Returns the reply of `answer` without a copy of the state: makes the call and rolls it back.
     pub fn answer_in_place(&mut self, space: u32, call: &Call) -> Result<Option<Reply>, AllocError>
         ensures answered { IfOk result (λ answer. IfSome answer
             (λ reply. Step self.old space call.now reply self.old × (has_record call.now reply ≡ false))) }
@@ -230,8 +232,8 @@ impl Kernel {
         answer
     }
 
-    /// What `apply` answers to `mach_port_type`, which changes nothing: the type bits of a name, or `InvalidTask` if
-    /// the space is gone, or `InvalidName` if the name isn't in use. It takes no memory.
+    /// Returns the reply of `apply` to `mach_port_type`, which changes nothing: the type bits of a name, `InvalidTask`
+    /// if the space is gone, or `InvalidName` if the name isn't in use. It allocates nothing.
     pub fn port_type(&self, space: u32, name: u32) -> Reply
         ensures { Step self.now space (Call.Plain (PlainCall.Type name)) result self.now }
     {
@@ -241,7 +243,7 @@ impl Kernel {
         Reply::Plain(port_calls::port_type(&self.state, space, name))
     }
 
-    /// What `apply` answers to `mach_port_get_refs`, which changes nothing. It takes no memory.
+    /// Returns the reply of `apply` to `mach_port_get_refs`, which changes nothing. It allocates nothing.
     pub fn get_refs(&self, space: u32, name: u32, right: u32) -> Reply
         ensures { Step self.now space (Call.Plain (PlainCall.GetRefs name right)) result self.now }
     {
@@ -251,7 +253,7 @@ impl Kernel {
         Reply::Plain(port_calls::get_refs(&self.state, space, name, right))
     }
 
-    /// What `apply` answers to `mach_port_get_receive_status`, which changes nothing. It takes no memory.
+    /// Returns the reply of `apply` to `mach_port_get_receive_status`, which changes nothing. It allocates nothing.
     pub fn receive_status(&self, space: u32, name: u32) -> Reply
         ensures { Step self.now space (Call.Plain (PlainCall.GetReceiveStatus name)) result self.now }
     {
@@ -261,9 +263,8 @@ impl Kernel {
         Reply::Plain(port_calls::receive_status(&self.state, space, name))
     }
 
-    /// Makes the step of a record: the machine's new state, or `Mismatch` if it has no such step. A record of a
-    /// numbered call that the space keeps already, with the reply that it keeps, changes nothing. At a fault, the
-    /// kernel is gone.
+    /// Makes the step of a record. Returns the new state, or `Mismatch` if the machine has no such step. A record of a
+    /// numbered call changes nothing if the space already keeps the call's reply. At a fault, the kernel is dropped.
     pub fn replay(self, record: &Record) -> Result<Kernel, ReplayFault>
         ensures step { IfOk result (λ new. Replays self «record».now new) }
         ensures only { IfOk result (λ new. (other : State) → Replays self «record».now other → other ≡ new) }
@@ -294,7 +295,7 @@ impl Kernel {
     }
 }
 
-/// The refusal of a caller whose space is gone.
+/// Returns the refusal of a caller whose space is gone.
 fn gone(number: u32) -> Reply
     ensures { result ≡ Reply.Plain (PlainReply.Refused number KernReturn.InvalidTask) }
 {

@@ -1,7 +1,7 @@
-// A law over the machine's steps, as the contract of a function that does nothing, so that the check proves it.
+// A law of the machine's steps. It is the contract of a function that does nothing, so that the prover checks it.
 ghost use Rattle.kernel.specs.Unrecorded.{UnrecordedStepsChangeNothing};
 
-/// A step without a record changes nothing.
+/// A step that isn't recorded changes nothing.
 pub fn unrecorded_steps_change_nothing()
     ensures { UnrecordedStepsChangeNothing }
 {}

@@ -11,7 +11,7 @@ use port_calls::IpcState;
 use sending::SendFault;
 use std::alloc::{AllocError, Global};
 
-/// Makes a send, and rolls its changes back if it is refused. If an allocation fails, they must be rolled back.
+/// Makes a send, and rolls its changes back if it is refused. If an allocation fails, the changes must be rolled back.
 pub fn send(
     alloc: Global,
     state: &mut IpcState,

@@ -1,4 +1,4 @@
-//! Where calls wait that find nothing to do.
+//! The places where a call waits that can't proceed.
 ghost use Rattle.std.specs.Prelude.{◌≡◌, ◌++◌, ◌∷◌, [], map, option_and_then, IfSome, OnOk};
 ghost use Rattle.ipc_model.specs.state.Ipc.{entry_at};
 ghost use Rattle.waiting.specs.Places.{place_of_name};
@@ -15,20 +15,20 @@ use std::alloc::{AllocError, Global};
 use waiting::{place_of_name, place_of_port};
 
 impl Kernel {
-    /// The places where a call of a task of this space waits if it finds nothing to do. `None`: an allocation failed,
-    /// or it is a send that is refused whatever its names stand for.
+    /// Returns the places where a call of a task in this space waits if it can't proceed. `None`: an allocation failed,
+    /// or the call is a send that is refused whatever its names denote.
     pub fn places_of_call(&self, space: u32, call: &Call) -> Option<Vec<u128>>
         ensures { IfSome result (λ places. places.items ≡ places_of_call self.now space call.now) }
     {
         match call {
             Call::Plain(call) => places_of_plain(self.alloc, &self.state, space, call),
-            // A numbered call waits nowhere.
+            // A numbered call never waits.
             Call::Numbered(_) | Call::Unnumberable => Some(Vec::new(self.alloc)),
         }
     }
 }
 
-/// The places where a plain call waits.
+/// Returns the places where a plain call waits.
 fn places_of_plain(
     alloc: Global,
     state: &IpcState,
@@ -44,7 +44,7 @@ fn places_of_plain(
     }
 }
 
-/// The place where a receive waits.
+/// Returns the place where a receive waits.
 fn place_of_receive(alloc: Global, space: u32, name: u32) -> Option<Vec<u128>>
     ensures { IfSome result (λ places. places.items ≡ place_of_name space name ∷ []) }
 {
@@ -53,7 +53,7 @@ fn place_of_receive(alloc: Global, space: u32, name: u32) -> Option<Vec<u128>>
     Some(places)
 }
 
-/// The places where a send waits.
+/// Returns the places where a send waits.
 fn places_of_send(alloc: Global, state: &IpcState, space: u32, message: &[u8]) -> Option<Vec<u128>>
     ensures { IfSome result (λ places. places.items ≡ places_of_send state.now.current space (used_parts message.now)) }
 {
@@ -67,7 +67,7 @@ fn places_of_send(alloc: Global, state: &IpcState, space: u32, message: &[u8]) -
     Some(places)
 }
 
-/// Adds the places of names.
+/// Appends the places of names in a space.
 fn push_names(space: u32, names: &[u32], places: &mut Vec<u128>) -> Result<(), AllocError>
     ensures { OnOk result (places.new.items ≡ places.old.items ++ map (place_of_name space) names.now) }
 {
@@ -77,7 +77,7 @@ fn push_names(space: u32, names: &[u32], places: &mut Vec<u128>) -> Result<(), A
     Ok(())
 }
 
-/// The port that a name stands for a right to.
+/// Returns the port of the right under a name.
 fn port_at(state: &IpcState, space: u32, name: u32) -> Option<u64>
     ensures { result ≡ option_and_then port_of (entry_at state.now.current space name) }
 {

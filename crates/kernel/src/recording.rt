@@ -1,4 +1,4 @@
-//! Steps whose records are written before they are committed.
+//! Steps that are recorded before they are committed.
 ghost use Rattle.std.specs.Prelude.{◌≡◌, ℕ, true, false, None, IfOk, OnOk, OnErr};
 ghost use Rattle.std.specs.FinMap as map;
 ghost use Rattle.ipc_laws.specs.RecordedSteps.{IsAnsweredWhole};
@@ -19,10 +19,10 @@ use std::alloc::{AllocError, Global};
 
 /// Writes the record of a call before the call is committed.
 pub trait Recorder {
-    /// There is room for one more record, memory aside.
+    /// There is room for one more record. The write may still run out of memory.
     ghost has_room: { Self → Type 0 };
 
-    /// What it is after it wrote the record of a call of a task of this space with this reply.
+    /// Relates the recorder before and after it wrote the record of a call of a task in this space with this reply.
     ghost wrote: { Self → ℕ → Call → Reply → Self → Type 0 };
 
     /// Writes a record. If an allocation fails, nothing changed.
@@ -34,7 +34,7 @@ pub trait Recorder {
         ensures err { OnErr result (self.new ≡ self.old) };
 }
 
-/// Writes nothing down.
+/// A recorder that writes nothing.
 #[derive(Drop)]
 pub(crate) struct Unrecorded;
 
@@ -48,8 +48,9 @@ impl Recorder for Unrecorded {
     }
 }
 
-/// Makes one step of the machine, has its space keep what it leaves it, and has its record written, if it has one. The
-/// changes of the IPC state must then be committed, or rolled back if an allocation failed; nothing else changed then.
+/// Makes one step of the machine, updates the space's kept reply and writes the record, if the step is recorded. The
+/// changes of the IPC state must then be committed, or rolled back if an allocation failed. In that case nothing else
+/// changed.
 pub(crate) fn step_recorded<R: Recorder>(
     alloc: Global,
     state: &mut IpcState,

@@ -1,4 +1,4 @@
-//! Steps made again, from their records.
+//! Replays steps from their records.
 ghost use Rattle.std.specs.Prelude.{◌≡◌, ◌↔◌, IsTrue, Some, None, OnOk, IsErrOf, option_copied};
 ghost use Rattle.std.specs.FinMap as map;
 ghost use Rattle.ipc_model.specs.calls.Step.{Step};
@@ -18,7 +18,7 @@ use number_table::NumberTable;
 use port_calls::IpcState;
 use std::alloc::Global;
 
-/// Whether a record is of a numbered call that the space keeps already, with the reply that it keeps.
+/// Returns true if a record is of a numbered call whose reply the space already keeps.
 pub fn is_kept_already(kept: &NumberTable<NumberedReply>, record: &Record) -> bool
     ensures { IsTrue result ↔ KeepsAlready kept.now «record».now.space «record».now.call «record».now.reply }
 {
@@ -30,7 +30,7 @@ pub fn is_kept_already(kept: &NumberTable<NumberedReply>, record: &Record) -> bo
     }
 }
 
-/// Whether a space keeps this reply, to a request of this number.
+/// Returns true if the kept reply is this one, and to a request of this number.
 fn is_kept_as(kept: Option<&NumberedReply>, given: &NumberedReply, request: u32) -> bool
     ensures { IsTrue result ↔ ((option_copied kept.entry ≡ Some given.now) × (given.now.request ≡ request)) }
 {

@@ -10,14 +10,14 @@ use codes::{
 };
 use ipc_model::{PlainReply, Reply};
 
-/// Whether this reply refuses its call.
+/// Returns true if this reply refuses its call.
 pub fn is_refusal(reply: &PlainReply) -> bool
     ensures { result ≡ is_refusal reply.now }
 {
     matches!(reply, PlainReply::Refused { .. })
 }
 
-/// Whether two replies are the same.
+/// Returns true if two replies are the same.
 pub fn is_same_reply(one: &Reply, other: &Reply) -> bool
     ensures { IsTrue result ↔ (one.now ≡ other.now) }
 {
@@ -29,7 +29,7 @@ pub fn is_same_reply(one: &Reply, other: &Reply) -> bool
     }
 }
 
-/// The reply to the call itself, where the call was numbered.
+/// Returns the reply to the call itself, also if the call was numbered.
 pub fn inner(reply: &Reply) -> &PlainReply
     ensures { result.now ≡ inner reply.now }
 {
@@ -39,7 +39,7 @@ pub fn inner(reply: &Reply) -> &PlainReply
     }
 }
 
-/// The number of the call that a reply is to.
+/// Returns the number of the call that a reply answers.
 pub fn number_of(reply: &PlainReply) -> u32
     ensures { result ≡ number_of_reply reply.now }
 {

@@ -1,4 +1,4 @@
-//! A kernel made of a state's plain rows.
+//! Builds a kernel from the plain rows of a state.
 ghost use Rattle.std.specs.Prelude.{◌≡◌, ◌↔◌, IfOk, OnOk, IsTrue, IsErrOf, All};
 ghost use Rattle.kernel.specs.Restoring.{AreKept, MayStay, kept_in_rows, put_row};
 ghost use Rattle.snapshot.specs.LawfulSnapshot.{IsLawfulSnapshot};
@@ -13,8 +13,8 @@ use snapshot_loading::{SnapshotFault, restore};
 use std::alloc::{AllocError, Global};
 
 impl Kernel {
-    /// The kernel whose state a snapshot is of; `NotLawful` if it isn't that of a lawful state. The snapshot is
-    /// consumed.
+    /// Returns the kernel with the state of a snapshot. `NotLawful`: the snapshot is of no lawful state. The snapshot
+    /// is consumed.
     pub fn from_snapshot(alloc: Global, snapshot: Snapshot) -> Result<Kernel, SnapshotFault>
         ensures same { IfOk result (λ kernel. snapshot ≡ snapshot_of kernel) }
         ensures lawful { IfOk result (λ kernel. IsLawfulSnapshot snapshot) }
@@ -31,7 +31,7 @@ impl Kernel {
     }
 }
 
-/// Whether a snapshot is that of a lawful state.
+/// Returns true if a snapshot is of a lawful state.
 pub fn lawful(alloc: Global, snapshot: &Snapshot) -> Result<bool, AllocError>
     ensures { IfOk result (λ yes. IsTrue yes ↔ IsLawfulSnapshot snapshot.now) }
 {
@@ -41,7 +41,7 @@ pub fn lawful(alloc: Global, snapshot: &Snapshot) -> Result<bool, AllocError>
     Ok(are_kept(snapshot.ipc.spaces.as_slice(), snapshot.kept.as_slice()))
 }
 
-/// Whether there is a row for each space, and each reply in the rows is one that a space may keep.
+/// Returns true if there is one row for each space, and each reply in the rows may be kept.
 fn are_kept(spaces: &[Space], rows: &[Option<NumberedReply>]) -> bool
     ensures { IsTrue result ↔ AreKept spaces.now rows.now }
 {
@@ -51,14 +51,14 @@ fn are_kept(spaces: &[Space], rows: &[Option<NumberedReply>]) -> bool
     may_all_stay(rows)
 }
 
-/// Whether each reply in the rows is one that a space may keep.
+/// Returns true if each reply in the rows may be kept.
 fn may_all_stay(rows: &[Option<NumberedReply>]) -> bool
     ensures { IsTrue result ↔ All MayStay rows.now }
 {
     rows.iter().all(may_stay)
 }
 
-/// Whether a space may keep this.
+/// Returns true if the row is empty, or a reply that may be kept.
 fn may_stay(row: &Option<NumberedReply>) -> bool
     ensures { IsTrue result ↔ MayStay row.now }
 {
@@ -68,7 +68,7 @@ fn may_stay(row: &Option<NumberedReply>) -> bool
     }
 }
 
-/// What the spaces keep, by their numbers.
+/// Builds the table of kept replies by space number.
 fn kept_in_rows(
     alloc: Global,
     spaces: &[Space],
@@ -88,7 +88,7 @@ fn kept_in_rows(
     Ok(kept)
 }
 
-/// Has a space keep what its row has.
+/// Inserts the kept reply of a space's row, if it has one.
 fn put_row(
     kept: &mut NumberTable<NumberedReply>,
     space: u32,

@@ -19,8 +19,8 @@ use ipc_model::{PlainCall, PlainReply};
 use port_calls::IpcState;
 use std::alloc::{AllocError, Global};
 
-/// Makes one step of the machine: the call of a task of this space. If the call may be answered by a reply that shows
-/// this, it is. The changes must then be committed, or rolled back if an allocation failed.
+/// Makes one step of the machine: the call of a task in this space. If a reply that shows these choices is possible, it
+/// is the reply. The changes must then be committed, or rolled back if an allocation failed.
 pub fn step(
     alloc: Global,
     state: &mut IpcState,
@@ -49,7 +49,7 @@ pub fn step(
     Ok(reply)
 }
 
-/// Makes a step that may take rights and set something off.
+/// Makes a step that may take rights and have effects.
 fn step_by_effects(
     alloc: Global,
     state: &mut IpcState,
@@ -81,7 +81,7 @@ fn step_by_effects(
     Ok(reply)
 }
 
-/// Drains what a call set off, and then returns its reply.
+/// Drains the effects of a call, and returns its reply.
 fn settle_after(
     alloc: Global,
     state: &mut IpcState,
@@ -97,8 +97,8 @@ fn settle_after(
     Ok(reply)
 }
 
-/// Does the call's own action, for a call that gives rights up or copies one in. If it is refused or an allocation
-/// fails, its changes must be rolled back.
+/// Makes the call's own action, for a call that gives up rights or copies one in. If it is refused or an allocation
+/// fails, the changes must be rolled back.
 fn try_call(
     alloc: Global,
     state: &mut IpcState,

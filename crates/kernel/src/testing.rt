@@ -12,8 +12,8 @@ use ipc_model::{NumberedCall, NumberedReply};
 use number_table::NumberTable;
 use port_calls::IpcState;
 
-/// The reply that the space keeps, if the call is asked for again; none if it is to be made. If a test fails, the code
-/// with which the call is refused.
+/// Returns the reply that the space keeps, if the request repeats the last one, or `None` if the call is to be made. If
+/// a test fails, returns the code with which the call is refused.
 pub fn test_numbered<'a>(
     state: &IpcState,
     kept: &'a NumberTable<NumberedReply>,
@@ -43,7 +43,7 @@ pub fn test_numbered<'a>(
     Ok(again)
 }
 
-/// The code with which number 22 refuses a call that it doesn't take.
+/// Returns the code with which number 22 refuses a call that can't be numbered.
 pub fn code_of_unnumberable(state: &IpcState, space: u32) -> KernReturn
     ensures { result ≡ (if not (is_some (map.get state.now.current.spaces space)) then KernReturn.InvalidTask
         else KernReturn.InvalidArgument) }
@@ -54,14 +54,14 @@ pub fn code_of_unnumberable(state: &IpcState, space: u32) -> KernReturn
     KernReturn::InvalidArgument
 }
 
-/// Whether a request is 0, or below the last one.
+/// Returns true if a request is 0 or less than the last one.
 fn is_stale(request: u32, last: Option<&NumberedReply>) -> bool
     ensures { result ≡ (request == 0 || nat_lt request (last_request (option_copied last.entry))) }
 {
     request == 0 || request < last_request(last)
 }
 
-/// The number of the last request, 0 for none.
+/// Returns the number of the last request, or 0 if there is none.
 fn last_request(last: Option<&NumberedReply>) -> u32
     ensures { result ≡ last_request (option_copied last.entry) }
 {
@@ -71,7 +71,7 @@ fn last_request(last: Option<&NumberedReply>) -> u32
     }
 }
 
-/// What the space keeps, if this request asks for it again.
+/// Returns the kept reply, if this request repeats the last one.
 fn asked_again(last: Option<&NumberedReply>, request: u32) -> Option<&NumberedReply>
     ensures { option_copied result ≡ asked_again (option_copied last.entry) request }
 {
@@ -83,7 +83,7 @@ fn asked_again(last: Option<&NumberedReply>, request: u32) -> Option<&NumberedRe
     }
 }
 
-/// Whether the request asks again for a call of another number.
+/// Returns true if the request repeats the last one with a call of another number.
 fn is_other_call(again: Option<&NumberedReply>, number: u32) -> bool
     ensures { result ≡ is_other_call (option_copied again.entry) number }
 {

@@ -1,4 +1,4 @@
--- What is recorded of a snapshot is the rights of its state, counted by their ports.
+-- The tallies of a snapshot are those of its state's rights, by port.
 use Rattle.std.proofs.Common.{◌≡◌, ℕ, ◌+◌, Bool, true, false, cond, List, [], ◌∷◌, Option, None, Some, refl, sym, ◌∙◌, ap, arith, eqb-true}
 use Rattle.std.specs.Prelude.{◌==◌, ◌&&◌, flat_map, count_by, find, option_map}
 use Rattle.std.specs.Cmp.{nat_cmp_total, eq_by_cmp_equiv, unsigned_tied}
@@ -18,11 +18,11 @@ use Rattle.listing.specs.Gathering.{Notes, no_rights, tally_of, with_right, note
 use Rattle.listing.specs.Listing.{references_of}
 use Rattle.listing.proofs.Walked.{standing_of, as_seen, all_seen, seen-append, names_all_seen, spaces_all_seen, kept_rights, snapshot_is}
 
--- rights that are recorded one after another
+-- rights that are added to the tallies one after another
 abbrev pub all_noted : List Right → Notes → Notes
 all_noted rights notes = all_seen noted 0 rights notes
 
--- references aren't recorded
+-- the tallies don't depend on references
 noted_alike : (references : ℕ) (right : Right) (notes : Notes)
     → noted (as_seen references right) notes ≡ noted (as_seen 0 right) notes
 unfolding noted
@@ -51,7 +51,7 @@ spaces_noted (e ∷ es) notes =
     ∙ spaces_noted es (all_noted (rights_of_space e.0 e.1) notes)
     ∙ sym (seen-append noted 0 (rights_of_space e.0 e.1) (flat_map (λ f. rights_of_space f.0 f.1) es) notes)
 
--- what is recorded of a snapshot is what is recorded of all rights of its state
+-- the tallies of a snapshot are those of all rights of its state
 pub gathered_is : (state : Ipc) → gathered (ipc_snapshot_of state) ≡ all_noted (placed state) finmap.empty
 unfolding gathered placed
 gathered_is state =
@@ -61,7 +61,7 @@ gathered_is state =
     ∙ ap (all_noted second) (spaces_noted (finmap.entries state.spaces) finmap.empty)
     ∙ sym (seen-append noted 0 first second finmap.empty)
 
--- what a tally says of a port's rights
+-- The rights to a port that a tally counts.
 
 tally_noted : (k : RightKind) (port : ℕ) (standing : Standing) (references : ℕ) (notes : Notes) (serial : ℕ)
     → tally_of (noted (record { kind = k; port = port; standing = standing; references = references }) notes) serial
@@ -75,7 +75,7 @@ tally_noted k port standing references notes serial =
     ∙ elim (port == serial) as (λ (b : Bool). unwrap_or (cond b (Some tally) (finmap.get notes serial)) no_rights
     ≡ cond b tally (tally_of notes serial)) [ true ↦ refl | false ↦ refl ]
 
--- a port's tally, with those of these rights that are its own
+-- a port's tally, with those of these rights that are to this port
 abbrev pub tallied : ℕ → List Right → Tally → Tally
 tallied serial [] tally = tally
 tallied serial (right ∷ rest) tally =

@@ -1,4 +1,4 @@
--- A state's snapshot is drawn as the state's drawing.
+-- The drawing of a state's snapshot is the state's drawing.
 use Rattle.std.proofs.Common.{◌≡◌, ℕ, List, [], ◌∷◌, ◌++◌, map, Result, Ok, Err, OnOk, refl, ◌∙◌, ap, append_assoc}
 use Rattle.std.specs.Prelude.{flat_map}
 use Rattle.std.specs.FinMap as finmap
@@ -56,7 +56,7 @@ placed_edge references serial k waiting = refl
 edge_is : (references : ℕ) (right : Right) → edge_of (as_seen references right) ≡ edge_line references right
 edge_is references right = placed_edge references right.port right.kind right.place
 
--- edges come after the text that they are added to
+-- edges follow the text to which they are appended
 nothing_after : (text : List ℕ) → text ≡ text ++ []
 nothing_after [] = refl
 nothing_after (x ∷ text) = ap (λ rest. x ∷ rest) (nothing_after text)

@@ -1,4 +1,4 @@
--- Lines added one after another.
+-- Lines appended one after another.
 use Rattle.std.proofs.Common.{◌≡◌, ℕ, zero, suc, ◌+◌, ◌<◌, List, [], ◌∷◌, ◌++◌, length, drop, flat_map, slice_index_or, refl, sym, ◌∙◌, ap, arith, append_assoc}
 
 module _ {X : Type 0} (f : X → List ℕ) (blank : X) where
@@ -8,7 +8,7 @@ module _ {X : Type 0} (f : X → List ℕ) (blank : X) where
   beyond (x ∷ xs) zero inside = refl
   beyond (x ∷ xs) (suc i) inside = beyond xs i (omega (arith, inside))
 
-  -- one more line is added, and one less is left
+  -- one more line is appended, and one less remains
   pub one_added : (xs : List X) (i : ℕ) (start out line new : List ℕ) → i < length xs
       → out ++ flat_map f (drop i xs) ≡ start → line ≡ f (slice_index_or xs i blank) → new ≡ out ++ line
       → new ++ flat_map f (drop (i + 1) xs) ≡ start

@@ -46,7 +46,7 @@ receive_is : (right : Option Right)
 receive_is None = refl
 receive_is (Some right) = place_is right.place
 
--- what is recorded of a port of a state
+-- the tally of a port of a state
 tally_is : (state : Ipc) (serial : ℕ)
     → tally_of (gathered (ipc_snapshot_of state)) serial ≡ tallied serial (placed state) no_rights
 tally_is state serial =

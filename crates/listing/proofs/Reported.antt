@@ -1,4 +1,4 @@
--- The receive right of each live port of a lawful state is found, and stands under a name or in a message.
+-- The receive right of each live port of a lawful state is found, under a name or in a message.
 use Rattle.std.proofs.Common.{◌≡◌, ℕ, ◌+◌, Bool, true, false, cond, List, [], ◌∷◌, ◌++◌, Option, None, Some, refl, sym, ◌∙◌, arith}
 use Rattle.std.specs.Prelude.{◌==◌, ◌&&◌, flat_map, count_by, find, if◌then◌else◌}
 use Rattle.std.specs.FinMap as finmap
@@ -17,7 +17,7 @@ use Rattle.ipc_model.specs.state.Ipc.{Ipc, Names}
 use Rattle.listing.specs.Holders.{IsHeldOrCarried, IsListed, HoldersAreListed}
 use Rattle.listing.specs.Listing.{is_receive_right}
 
--- a receive right stands under a name or in a message
+-- a receive right is under a name or in a message
 abbrev IsPlaced : Right → Type 0
 IsPlaced right = same_kind right.kind kind.Receive ≡ true → IsHeldOrCarried right.place
 
@@ -102,7 +102,7 @@ both_hold : (a b : Bool) → a && b ≡ true → a ≡ true
 both_hold true b e = refl
 both_hold false b e = e
 
--- one that is counted is found
+-- a receive right that is counted is found
 found : (serial : ℕ) (rights : List Right) → ArePlaced rights → count_by (is_receive_right serial) rights ≡ 1
     → IsListed (find (is_receive_right serial) rights)
 found serial [] are one = absurd (omega (arith, one))

@@ -1,4 +1,4 @@
--- What a walk over the snapshot of a state sees: the rights of the state, one after another.
+-- A walk over the snapshot of a state passes the rights of the state, one after another.
 use Rattle.std.proofs.Common.{◌≡◌, ℕ, Bool, true, false, List, [], ◌∷◌, ◌++◌, map, Option, None, Some, refl, sym, ◌∙◌, ap}
 use Rattle.std.specs.Prelude.{◌==◌, flat_map, if◌then◌else◌}
 use Rattle.std.specs.FinMap as finmap
@@ -20,7 +20,7 @@ use Rattle.listing.specs.declared.standing.StandingRight.{StandingRight}
 use Rattle.listing.specs.Listing.{references_of}
 use Rattle.listing.specs.Walking.{right, target_seen, entry_seen, names_seen, spaces_seen, carried_seen, reply_seen, rights_seen, message_seen, messages_seen, state_seen, ports_seen, snapshot_seen}
 
--- where a right stands; no right of a state waits among effects
+-- the place of a right; no right of a state is in pending effects
 abbrev pub standing_of : Place → Standing
 standing_of (held space name) = Held space name
 standing_of (destination queue) = Queued queue
@@ -45,12 +45,12 @@ references_at references waiting = 0
 abbrev pub as_seen : ℕ → Right → StandingRight
 as_seen references r = right r.kind r.port (standing_of r.place) (references_at references r.place)
 
--- the rights that ports keep
+-- the rights in the states of ports
 abbrev pub kept_rights : List (ℕ × PortState) → List Right
 kept_rights es = flat_map (λ e. rights_of_port e.0 e.1) es
 
 module _ {S : Type 0} (see : StandingRight → S → S) where
-  -- rights that are seen one after another
+  -- rights that are passed one after another
   abbrev pub all_seen : ℕ → List Right → S → S
   all_seen references [] s = s
   all_seen references (r ∷ rest) s = all_seen references rest (see (as_seen references r) s)
@@ -78,7 +78,7 @@ module _ {S : Type 0} (see : StandingRight → S → S) where
   port_destroyed_target_is port None s = refl
   port_destroyed_target_is port (Some serial) s = refl
 
-  -- the rights of a name, with whether it has a receive right, and whether it has no send right
+  -- the rights of a name, given whether it has a receive right and whether it has no send right
   held_is : (space name serial references : ℕ) (receive none : Bool) (target : Option ℕ) (s : S)
       → target_seen see (DeadNameRequest space name) target
       (if none then (if receive then see (right kind.Receive serial (Held space name) references) s else s)

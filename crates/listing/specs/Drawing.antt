@@ -1,5 +1,5 @@
 -- A state as a text for Graphviz: a cluster for each space with its names as nodes, a node for each live port, and an
--- edge for each right, from where it stands to its port.
+-- edge for each right from its place to its port.
 use Rattle.std.specs.Prelude.{ℕ, List, ◌++◌, length, flat_map, codes, decimal}
 use Rattle.std.specs.FinMap as finmap
 use Rattle.ipc_model.specs.declared.entry.Entry.{Entry}
@@ -47,7 +47,7 @@ port_node_text serial send send_once port =
     ++ (decimal serial ++ (codes "\\nsend " ++ (decimal send
     ++ (codes " once " ++ (decimal send_once ++ (codes "\\n" ++ (queue_label port ++ codes "\"];\n")))))))))
 
--- a live port, with how many send and send-once rights it has
+-- a live port, with the numbers of its send and send-once rights
 abbrev pub port_node_line : Ipc → ℕ → PortState → List ℕ
 port_node_line state serial port = port_node_text serial (send_count state serial) (send_once_count state serial) port
 
@@ -56,14 +56,14 @@ kind_word kind.Receive = codes "receive"
 kind_word kind.Send = codes "send"
 kind_word kind.SendOnce = codes "send-once"
 
--- what a right that a name holds is called: a send right with its references
+-- the label of a right under a name: a send right has its references
 abbrev pub held_label : ℕ → RightKind → List ℕ
 held_label references kind.Receive = codes "receive"
 held_label references kind.Send = codes "send x" ++ decimal references
 held_label references kind.SendOnce = codes "send-once"
 
--- the node that a right goes out from: its name, the port whose queue it is in, or the name or port of its request; no
--- right of a state waits among effects
+-- the node from which a right's edge starts: its name, the port whose queue contains it, or the name or port of its
+-- request; no right of a state is in pending effects
 abbrev pub source : Place → List ℕ
 source (held space name) = name_node space name
 source (destination queue) = port_node queue

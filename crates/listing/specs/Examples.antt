@@ -35,7 +35,8 @@ pub opening-lines : listing 0 0 opening_ipc ≡ codes "epoch 0 records 0\nspace 
 unfolding listing placed space_line store_line digits
 opening-lines = simp (opened_spaces, none)
 
--- A port whose receive right and one send right space 1 holds as 0x100, and from which a message was received.
+-- A port whose receive right and one send right are under the name 0x100 of space 1, and from which a message was
+-- received.
 abbrev names_made : List (ℕ × Entry)
 names_made = (0x100, Port (record { port = 1; receive = true; send = 1; dead_name_target = None })) ∷ []
 
@@ -68,8 +69,8 @@ unfolding drawing placed hexadecimal name_node port_node name_node_line cluster_
     edge_text encode_with digits
 made-drawn = simp (made_spaces, made_ports) (simp made_names)
 
--- Every kind of name, right and request. Port 2's receive right is in a message of port 1's queue, alongside a send
--- right of port 1 and one of a port that is dead.
+-- Every kind of name, right and request. Port 2's receive right is in a message in port 1's queue, with a send right to
+-- port 1 and one to a dead port.
 abbrev names_of_1 : List (ℕ × Entry)
 names_of_1 =
     (0x100, Port (record { port = 1; receive = true; send = 2; dead_name_target = None }))

@@ -1,4 +1,4 @@
--- The rights of a snapshot, gathered by their ports.
+-- The rights of a snapshot, collected by their ports.
 use Rattle.std.specs.Prelude.{ℕ, ◌+◌, None, Some}
 use Rattle.std.specs.FinMap as finmap
 use Rattle.std.specs.Option.{option_or, unwrap_or}
@@ -11,7 +11,7 @@ use Rattle.listing.specs.declared.standing.StandingRight.{StandingRight}
 use Rattle.listing.specs.declared.tally.Tally.{Tally}
 use Rattle.listing.specs.Walking.{snapshot_seen}
 
--- what is recorded of ports, by their serials
+-- the tallies of ports, by their serials
 abbrev pub Notes : Type 0
 Notes = finmap.FinMap nat_cmp Tally
 
@@ -30,6 +30,6 @@ with_right kind.SendOnce standing tally = record tally { send_once = tally.send_
 unfoldable pub noted : StandingRight → Notes → Notes
 noted right notes = finmap.insert notes right.port (with_right right.kind right.standing (tally_of notes right.port))
 
--- what is recorded of all rights of a snapshot
+-- the tallies of all rights of a snapshot
 unfoldable pub gathered : IpcSnapshot → Notes
 gathered snapshot = snapshot_seen noted snapshot finmap.empty

@@ -1,11 +1,11 @@
--- Where the receive rights of a lawful state's ports are.
+-- The places of the receive rights in a lawful state.
 use Rattle.std.specs.Prelude.{◌≡◌, ℕ, true, Option, None, Some}
 use Rattle.ipc_model.specs.state.Lawful.{Lawful}
 use Rattle.ipc_model.specs.state.Placed.{Place, held, destination, reply, body, dead_name_request, no_senders_request, port_destroyed_request, waiting, Right}
 use Rattle.ipc_model.specs.state.Ipc.{Ipc, lives}
 use Rattle.listing.specs.Listing.{receive_right}
 
--- under a name, or in a message of a queue
+-- a name, or a message in a queue
 abbrev pub IsHeldOrCarried : Place → Type 0
 IsHeldOrCarried (held space name) = Unit {0}
 IsHeldOrCarried (destination queue) = Unit {0}
@@ -20,7 +20,7 @@ abbrev pub IsListed : Option Right → Type 0
 IsListed None = ⊥
 IsListed (Some right) = IsHeldOrCarried right.place
 
--- The line of each live port says where its receive right is.
+-- The line of each live port of a lawful state shows the place of its receive right.
 abbrev pub HoldersAreListed : Type 0
 HoldersAreListed =
     (state : Ipc) (serial : ℕ) → Lawful state → lives state serial ≡ true → IsListed (receive_right state serial)

@@ -1,4 +1,4 @@
--- A state in lines of text: a line of what its store counts, then each space with its names, then each live port.
+-- A state as lines of text: a line with the numbers of its store, then each space with its names, then each live port.
 use Rattle.std.specs.Prelude.{ℕ, Bool, ◌==◌, ◌&&◌, List, [], ◌++◌, length, flat_map, find, Option, None, Some, codes, decimal}
 use Rattle.std.specs.Int.{w32, to_be_bytes}
 use Rattle.std.specs.FinMap as finmap
@@ -10,18 +10,18 @@ use Rattle.ipc_model.specs.declared.port.PortState.{PortState}
 use Rattle.ipc_model.specs.state.Placed.{Place, held, destination, reply, body, dead_name_request, no_senders_request, port_destroyed_request, waiting, Right, same_kind, placed, send_count, send_once_count}
 use Rattle.ipc_model.specs.state.Ipc.{Ipc, Names, type_of}
 
--- eight hexadecimal digits: the four bytes of a number, the high one first
+-- eight hexadecimal digits: the four bytes of a number in big-endian order
 unfoldable pub hexadecimal : ℕ → List ℕ
 hexadecimal n = encode_lower (to_be_bytes w32 n)
 
--- the port that a name has rights to, 0 for a set or a dead name
+-- the port of an entry's rights, or 0 for a set or a dead name
 abbrev pub port_of : Entry → ℕ
 port_of (Port rights) = rights.port
 port_of (SendOnce port target) = port
 port_of Set = 0
 port_of (Dead references) = 0
 
--- a name's references; 0 if it holds only a receive right
+-- the references of an entry, or 0 if it holds only a receive right
 abbrev pub references_of : Entry → ℕ
 references_of (Port rights) = rights.send
 references_of (SendOnce port target) = 1
@@ -37,11 +37,11 @@ name_line name entry =
 unfoldable pub space_line : ℕ → List ℕ
 space_line space = codes "space " ++ (decimal space ++ codes "\n")
 
--- a space and its names, ascending
+-- a space and its names, in ascending order
 abbrev pub space_lines : ℕ → Names → List ℕ
 space_lines space names = space_line space ++ flat_map (λ e. name_line e.0 e.1) (finmap.entries names)
 
--- where a receive right is: under a name, or in a message of a port's queue; requests keep only send-once rights
+-- the place of a receive right: a name, or a message in a port's queue; targets of requests are send-once rights only
 abbrev pub place_encoding : Place → List ℕ
 place_encoding (held space name) = codes " held " ++ (decimal space ++ (codes " " ++ hexadecimal name))
 place_encoding (destination queue) = codes " carried " ++ decimal queue
@@ -52,7 +52,7 @@ place_encoding (no_senders_request port) = []
 place_encoding (port_destroyed_request port) = []
 place_encoding waiting = []
 
--- a port's receive right: each port of a lawful state has one
+-- a right is the receive right of a port; each port of a lawful state has one
 abbrev pub is_receive_right : ℕ → Right → Bool
 is_receive_right serial right = same_kind right.kind kind.Receive && right.port == serial
 
@@ -63,7 +63,7 @@ abbrev pub receive_text : Option Right → List ℕ
 receive_text None = []
 receive_text (Some right) = place_encoding right.place
 
--- what a port keeps besides its rights
+-- the state of a port besides its rights
 unfoldable pub queue_text : PortState → List ℕ
 queue_text port =
     codes " queue " ++ (decimal (length port.messages) ++ (codes " of " ++ (decimal port.limit
@@ -75,13 +75,13 @@ port_encoding serial receive send send_once port =
     codes "port " ++ (decimal serial ++ (receive ++ (codes " send "
     ++ (decimal send ++ (codes " once " ++ (decimal send_once ++ queue_text port))))))
 
--- a live port, where its receive right is, and how many send and send-once rights it has
+-- a live port, the place of its receive right, and the numbers of its send and send-once rights
 abbrev pub port_line : Ipc → ℕ → PortState → List ℕ
 port_line state serial port =
     port_encoding serial (receive_text (receive_right state serial)) (send_count state serial)
     (send_once_count state serial) port
 
--- the epoch of a store, and how many records its segments hold
+-- the epoch of a store, and the number of records in its segments
 unfoldable pub store_line : ℕ → ℕ → List ℕ
 store_line epoch records = codes "epoch " ++ (decimal epoch ++ (codes " records " ++ (decimal records ++ codes "\n")))
 

@@ -1,4 +1,4 @@
--- The lines of a snapshot's rows, from the gathered rights of its ports.
+-- The lines of a snapshot's rows, from the tallies of its ports.
 use Rattle.std.specs.Prelude.{ℕ, List, [], ◌++◌, flat_map, Option, None, Some, codes, decimal}
 use Rattle.snapshot.specs.declared.rows.LivePort.{LivePort}
 use Rattle.snapshot.specs.declared.rows.NamedEntry.{NamedEntry}
@@ -18,7 +18,7 @@ space_rows space = space_line space.number ++ names_rows space.names
 abbrev pub spaces_rows : List Space → List ℕ
 spaces_rows spaces = flat_map space_rows spaces
 
--- where a receive right stands; requests keep only send-once rights
+-- the place of a receive right; targets of requests are send-once rights only
 abbrev pub standing_text : Option Standing → List ℕ
 standing_text None = []
 standing_text (Some (Held space name)) = codes " held " ++ (decimal space ++ (codes " " ++ hexadecimal name))

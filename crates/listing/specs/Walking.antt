@@ -1,4 +1,4 @@
--- The rights of a snapshot, one after another: what a walk over it passes to `see`.
+-- The rights of a snapshot, one after another, as a walk passes them to `see`.
 use Rattle.std.specs.Prelude.{ℕ, ◌==◌, List, [], ◌∷◌, Option, None, Some, if◌then◌else◌}
 use Rattle.ipc_model.specs.declared.entry.Entry.{Entry}
 use Rattle.ipc_model.specs.declared.entry.Entry.TheVariants.{Port, SendOnce}
@@ -28,7 +28,7 @@ request_target (SendOnce port target) = target
 request_target _ = None
 
 module _ {S : Type 0} (see : StandingRight → S → S) where
-  -- the target of a request
+  -- the target of a request is passed, if there is one
   abbrev pub target_seen : Standing → Option ℕ → S → S
   target_seen standing None s = s
   target_seen standing (Some serial) s = see (right kind.SendOnce serial standing 0) s
@@ -44,7 +44,7 @@ module _ {S : Type 0} (see : StandingRight → S → S) where
   send_seen space name (SendOnce port target) s = see (right kind.SendOnce port (Held space name) 1) s
   send_seen space name _ s = s
 
-  -- what a name of a space stands for
+  -- the rights of an entry of a space are passed
   unfoldable pub entry_seen : ℕ → ℕ → Entry → S → S
   entry_seen space name entry s =
       target_seen (DeadNameRequest space name) (request_target entry)
@@ -58,7 +58,7 @@ module _ {S : Type 0} (see : StandingRight → S → S) where
   spaces_seen [] s = s
   spaces_seen (space ∷ rest) s = spaces_seen rest (names_seen space.number space.names s)
 
-  -- a right that a message in a port's queue carries
+  -- a right in a message of a port's queue is passed
   abbrev pub port_seen : ℕ → RightKind → PortInMessage → S → S
   port_seen queue of_kind in_message.Null s = s
   port_seen queue of_kind in_message.Dead s = s
@@ -84,7 +84,7 @@ module _ {S : Type 0} (see : StandingRight → S → S) where
   messages_seen queue [] s = s
   messages_seen queue (message ∷ rest) s = messages_seen queue rest (message_seen queue message s)
 
-  -- what a live port keeps
+  -- the rights in the state of a live port are passed
   unfoldable pub state_seen : ℕ → PortState → S → S
   state_seen serial port s =
       target_seen (PortDestroyedRequest serial) port.port_destroyed_target
@@ -94,6 +94,6 @@ module _ {S : Type 0} (see : StandingRight → S → S) where
   ports_seen [] s = s
   ports_seen (port ∷ rest) s = ports_seen rest (state_seen port.serial port.state s)
 
-  -- all rights of a snapshot
+  -- all rights of a snapshot are passed
   unfoldable pub snapshot_seen : IpcSnapshot → S → S
   snapshot_seen snapshot s = ports_seen snapshot.ports (spaces_seen snapshot.spaces s)

@@ -13,7 +13,7 @@ use snapshot::{IpcSnapshot, LivePort, NamedEntry, Space};
 use std::alloc::{AllocError, Global};
 use std::mem;
 
-/// What a drawing begins with.
+/// The first lines of a drawing.
 const HEAD: &[u8] = b"digraph ports {\n  rankdir=LR;\n  node [shape=box];\n";
 
 fn push_names(
@@ -65,7 +65,7 @@ fn push_ports(
     Ok(())
 }
 
-/// A text to which an edge is added for each right.
+/// A text to which an edge is appended for each right.
 #[derive(Drop)]
 struct Edges {
     alloc: Global,
@@ -112,9 +112,9 @@ fn push_drawing(alloc: Global, snapshot: &IpcSnapshot, out: &mut Vec<u8>) -> Res
     out.extend_from_slice(b"}\n")
 }
 
-/// Adds a drawing of a state to a text, in the language of Graphviz: its spaces as clusters of their names, its live
-/// ports, and an edge for each right from where it stands to its port. It fails if memory runs out, and some of the
-/// drawing may have been added then.
+/// Appends a drawing of a state in the language of Graphviz: its spaces as clusters of their names, its live ports, and
+/// an edge for each right from its place to its port. It fails only if out of memory; then part of the drawing may have
+/// been appended.
 pub fn draw(alloc: Global, snapshot: &IpcSnapshot, out: &mut Vec<u8>) -> Result<(), AllocError>
     ensures { (state : Ipc) → snapshot.now ≡ ipc_snapshot_of state
         → OnOk result (out.new.items ≡ out.old.items ++ drawing state) }

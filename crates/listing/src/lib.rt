@@ -1,4 +1,4 @@
-//! A state of the machine in lines of text for people and scripts, and drawn for Graphviz.
+//! Prints a state of the machine as lines of text for people and scripts, and as a drawing for Graphviz.
 #![tactic(auto)]
 
 mod drawing;

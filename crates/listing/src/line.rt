@@ -27,7 +27,7 @@ pub(crate) fn references_of(entry: &Entry) -> u32
     }
 }
 
-/// Adds a text and drops it, so that a `?` after the call has nothing to drop.
+/// Appends a text and drops it, so that a `?` after the call has nothing to drop.
 pub(crate) fn push_encoding(out: &mut Vec<u8>, text: String) -> Result<(), AllocError>
     ensures { OnOk result (out.new.items ≡ out.old.items ++ string_bytes text) }
 {
@@ -43,7 +43,7 @@ pub(crate) fn hexadecimal(alloc: Global, number: u32) -> Result<String, AllocErr
     hex::encode(alloc, number.to_be_bytes())
 }
 
-/// The line of a name.
+/// Returns the line of a name.
 #[tactic(auto, unfolding(crate::specs::Listing::name_line))]
 pub(crate) fn name_line(alloc: Global, name: u32, entry: &Entry) -> Result<String, AllocError>
     ensures { IfOk result (λ line. string_bytes line ≡ name_line name entry.now) }
@@ -58,7 +58,7 @@ pub(crate) fn name_line(alloc: Global, name: u32, entry: &Entry) -> Result<Strin
     line
 }
 
-/// The line of a space.
+/// Returns the line of a space.
 #[tactic(auto, unfolding(crate::specs::Listing::space_line))]
 pub(crate) fn space_line(alloc: Global, space: u32) -> Result<String, AllocError>
     ensures { IfOk result (λ line. string_bytes line ≡ space_line space) }
@@ -66,7 +66,7 @@ pub(crate) fn space_line(alloc: Global, space: u32) -> Result<String, AllocError
     format!(in alloc; "space {space}\n")
 }
 
-/// Where a port's receive right stands, with a space in front.
+/// Returns the place of a port's receive right, after a space.
 fn standing_text(alloc: Global, receive: Option<Standing>) -> Result<String, AllocError>
     ensures { IfOk result (λ text. string_bytes text ≡ standing_text receive) }
 {
@@ -80,7 +80,7 @@ fn standing_text(alloc: Global, receive: Option<Standing>) -> Result<String, All
     }
 }
 
-/// The end of a port's line.
+/// Returns the end of a port's line, about its queue.
 #[tactic(auto, unfolding(crate::specs::Listing::queue_text))]
 fn queue_text(alloc: Global, port: &PortState) -> Result<String, AllocError>
     ensures { IfOk result (λ text. string_bytes text ≡ queue_text port.now) }
@@ -92,7 +92,7 @@ fn queue_text(alloc: Global, port: &PortState) -> Result<String, AllocError>
     format!(in alloc; " queue {queued} of {limit} seqno {seqno} mscount {mscount}\n")
 }
 
-/// The line of a port.
+/// Returns the line of a port.
 #[tactic(auto, unfolding(crate::specs::Listing::port_encoding))]
 pub(crate) fn port_line(
     alloc: Global,
@@ -113,7 +113,7 @@ pub(crate) fn port_line(
     line
 }
 
-/// The line of what a store counts.
+/// Returns the line with the numbers of a store.
 #[tactic(auto, unfolding(crate::specs::Listing::store_line))]
 pub(crate) fn store_line(alloc: Global, epoch: u64, records: u64) -> Result<String, AllocError>
     ensures { IfOk result (λ line. string_bytes line ≡ store_line epoch records) }

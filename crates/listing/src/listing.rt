@@ -70,9 +70,9 @@ fn push_rows(
     pushed
 }
 
-/// Adds the lines of a state to a text: `epoch` and `records` as its store counts them, then its spaces with their
-/// names, then its live ports. One walk gathers the rights of each port, and one writes the lines. It fails if memory
-/// runs out, and some lines may have been added then.
+/// Appends the lines of a state: the epoch and the number of records of its store, then its spaces with their names,
+/// then its live ports. One walk collects the rights to each port, and a second one writes the lines. It fails only if
+/// out of memory; then some lines may have been appended.
 pub fn list(
     alloc: Global,
     epoch: u64,

@@ -23,7 +23,7 @@ fn port_node(alloc: Global, serial: u64) -> Result<String, AllocError>
     format!(in alloc; "p{serial}")
 }
 
-/// The node of a name.
+/// Returns the node of a name.
 #[tactic(auto, unfolding(crate::specs::Drawing::name_node_line))]
 pub(crate) fn name_node_line(
     alloc: Global,
@@ -40,7 +40,7 @@ pub(crate) fn name_node_line(
     format!(in alloc; "    {node} [label=\"{name} {bits} refs {references}\"];\n")
 }
 
-/// The head of a space's cluster.
+/// Returns the head of a space's cluster.
 #[tactic(auto, unfolding(crate::specs::Drawing::cluster_head))]
 pub(crate) fn cluster_head(alloc: Global, space: u32) -> Result<String, AllocError>
     ensures { IfOk result (λ text. string_bytes text ≡ cluster_head space) }
@@ -59,7 +59,7 @@ fn queue_label(alloc: Global, port: &PortState) -> Result<String, AllocError>
     format!(in alloc; "queue {queued} of {limit}\\nseqno {seqno} mscount {mscount}")
 }
 
-/// The node of a port.
+/// Returns the node of a port.
 #[tactic(auto, unfolding(crate::specs::Drawing::port_node_text))]
 pub(crate) fn port_node_line(
     alloc: Global,
@@ -91,7 +91,7 @@ fn kind_word(kind: RightKind) -> &'static str
     }
 }
 
-/// What a right that a name holds is called.
+/// Returns the label of a right under a name.
 fn held_label(alloc: Global, references: u32, kind: RightKind) -> Result<String, AllocError>
     ensures { IfOk result (λ text. string_bytes text ≡ held_label references kind) }
 {
@@ -102,7 +102,7 @@ fn held_label(alloc: Global, references: u32, kind: RightKind) -> Result<String,
     }
 }
 
-/// The node that a right goes out from.
+/// Returns the node from which a right's edge starts.
 fn source(alloc: Global, standing: Standing) -> Result<String, AllocError>
     ensures { IfOk result (λ text. string_bytes text ≡ source_of standing) }
 {
@@ -135,7 +135,7 @@ fn label(
     }
 }
 
-/// The edge of a right.
+/// Returns the edge of a right.
 #[tactic(auto, unfolding(crate::specs::Drawing::edge_text))]
 pub(crate) fn edge_line(alloc: Global, right: StandingRight) -> Result<String, AllocError>
     ensures { IfOk result (λ line. string_bytes line ≡ edge_of right) }

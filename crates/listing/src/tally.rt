@@ -9,18 +9,18 @@ use number_map::NumberMap;
 use snapshot::IpcSnapshot;
 use std::alloc::{AllocError, Global};
 
-/// The rights of a port.
+/// The rights to a port.
 #[derive(Clone, Copy)]
 pub(crate) struct Tally {
-    /// Where its receive right stands.
+    /// The place of its receive right.
     pub(crate) receive: Option<Standing>,
-    /// How many send rights it has.
+    /// Number of send rights.
     pub(crate) send: u64,
-    /// How many send-once rights it has.
+    /// Number of send-once rights.
     pub(crate) send_once: u64,
 }
 
-/// The next count. No memory holds more rights than 64 bits count.
+/// Returns the next count. No memory holds so many rights that the count overflows.
 fn one_more(count: u64) -> Result<u64, AllocError>
     ensures { IfOk result (λ more. more ≡ count + 1) }
 {
@@ -41,7 +41,7 @@ impl Tally {
         }
     }
 
-    /// The tally with one more right.
+    /// Returns the tally with one more right.
     fn with_right(self, kind: RightKind, standing: Standing) -> Result<Tally, AllocError>
         ensures { IfOk result (λ tally. tally ≡ with_right kind standing self) }
     {
@@ -62,7 +62,7 @@ impl Tally {
     }
 }
 
-/// The rights of each port, by its serial.
+/// The rights to each port, by its serial.
 #[derive(Drop)]
 pub(crate) struct Tallies {
     by_port: NumberMap<Tally>,
@@ -77,7 +77,7 @@ impl Tallies {
         }
     }
 
-    /// The rights of a port.
+    /// Returns the rights to a port.
     pub(crate) fn tally(&self, serial: u64) -> Tally
         ensures { result ≡ tally_of self.now.by_port serial }
     {
@@ -107,7 +107,7 @@ impl Visitor for Tallies {
     }
 }
 
-/// The rights of a snapshot's ports, by one walk over it. It fails if memory runs out.
+/// Collects the rights to a snapshot's ports in one walk. It fails only if out of memory.
 #[tactic(auto, unfolding(crate::specs::Gathering::gathered))]
 pub(crate) fn gather(alloc: Global, snapshot: &IpcSnapshot) -> Result<Tallies, AllocError>
     ensures { IfOk result (λ tallies. tallies.by_port ≡ gathered snapshot.now) }

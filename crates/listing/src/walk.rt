@@ -6,19 +6,19 @@ use ipc_model::{CarriedRight, Entry, Message, PortInMessage, PortState, RightKin
 use snapshot::{IpcSnapshot, LivePort, NamedEntry, Space};
 use std::alloc::AllocError;
 
-/// Sees the rights of a state, one after another.
+/// Receives the rights of a state, one after another.
 pub(crate) trait Visitor {
     ghost use Rattle.listing.specs.declared.standing.StandingRight.{StandingRight};
 
-    // What it keeps of the rights that it saw.
+    // The visitor's state.
     ghost View: { Type 0 };
 
     ghost view: { Self → View };
 
-    // What it keeps after one more right.
+    // The visitor's state after one more right.
     ghost seen: { StandingRight → View → View };
 
-    /// Sees a right. It fails if memory runs out.
+    /// Receives a right. It fails only if out of memory.
     fn see(&mut self, right: StandingRight) -> Result<(), AllocError>
         ensures { OnOk result (view self.new ≡ seen right (view self.old)) };
 }
@@ -86,7 +86,7 @@ fn see_send<V: Visitor>(
     }
 }
 
-/// The target of a name's dead-name request.
+/// Returns the target of a name's dead-name request.
 fn request_target(entry: &Entry) -> Option<u64>
     ensures { result ≡ request_target entry.now }
 {
@@ -140,7 +140,7 @@ fn see_spaces<V: Visitor>(visitor: &mut V, spaces: &[Space]) -> Result<(), Alloc
     Ok(())
 }
 
-/// A right that a message in this port's queue carries.
+/// Passes a right in a message of this port's queue to the visitor.
 fn see_carried<V: Visitor>(
     visitor: &mut V,
     queue: u64,
@@ -238,7 +238,7 @@ fn see_ports<V: Visitor>(visitor: &mut V, ports: &[LivePort]) -> Result<(), Allo
     Ok(())
 }
 
-/// Shows all rights of a snapshot. It fails if memory runs out.
+/// Passes all rights of a snapshot to the visitor. It fails only if out of memory.
 #[tactic(auto, unfolding(crate::specs::Walking::snapshot_seen))]
 pub(crate) fn see_snapshot<V: Visitor>(
     visitor: &mut V,

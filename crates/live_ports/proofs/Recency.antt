@@ -1,4 +1,4 @@
--- The table of places, where a place or a key changes.
+-- The cache of keys, when a place or a key changes.
 use Rattle.std.proofs.Common.{◌≡◌, ◌≤◌, ℕ, Bool, true, false, cond, [], Option, None, Some, IfSome, is_some, replicate, arith, refl, sym, ◌∙◌, ap, inl, inr}
 use Rattle.std.proofs.lemmas.Bool.{cases_eq, cases_lt}
 use Rattle.std.proofs.lemmas.List.{get_or-replicate, get_or_past, length-replicate}
@@ -10,11 +10,11 @@ use Rattle.ipc_laws.specs.MapSums.{key_is, same_key}
 use Rattle.live_ports.specs.Slabbed.{Keys}
 use Rattle.live_ports.specs.Recent.{Places, at, place_of, AreRecent, IsLast, IsNoted}
 
--- places that are all free agree with any keys
+-- free places agree with any keys
 pub free_recent : (places : Places) (keys : Keys) → ((place : ℕ) → at places place ≡ None) → AreRecent places keys
 free_recent places keys free = record { found = λ noted is. absurd (cc (sym is ∙ free (place_of noted.0))) }
 
--- the key of a serial, from a place's content
+-- the key of a serial, from the content of a place
 key_of : (serial key : ℕ) (content : Option (ℕ × ℕ)) → IfSome content (λ noted. (noted.0 ≡ serial) × (noted.1 ≡ key))
     → (noted : ℕ × ℕ) → content ≡ Some noted → (noted.0 ≡ serial) × (noted.1 ≡ key)
 key_of serial key (Some found) is noted same = (
@@ -23,7 +23,7 @@ key_of serial key (Some found) is noted same = (
 )
 key_of serial key None is noted same = absurd (cc same)
 
--- a serial gets a key, and its place gets that content
+-- A serial gets a key, and its place gets that content.
 module _ (old between new : Places) (keys : Keys) (serial key : ℕ) (content : Option (ℕ × ℕ))
     (recent : AreRecent old keys) (alike : (place : ℕ) → at between place ≡ at old place)
     (noting : IsNoted content (place_of serial) between new)
@@ -49,7 +49,7 @@ module _ (old between new : Places) (keys : Keys) (serial key : ℕ) (content : 
             (sym (noting.others (place_of noted.0) apart ∙ alike (place_of noted.0)) ∙ stands)
       ]
 
--- a serial that has a key is put into its place again
+-- A serial with a key is cached again.
 module _ (old new : Places) (keys : Keys) (serial key : ℕ) (content : Option (ℕ × ℕ))
     (recent : AreRecent old keys) (has : get keys serial ≡ Some key)
     (noting : IsNoted content (place_of serial) old new)
@@ -65,7 +65,7 @@ module _ (old new : Places) (keys : Keys) (serial key : ℕ) (content : Option (
       own : (noted : ℕ × ℕ) → (noted.0 ≡ serial) × (noted.1 ≡ key) → get keys noted.0 ≡ Some noted.1
       own noted same = ap (get keys) same.0 ∙ has ∙ ap Some (sym same.1)
 
--- a serial's key goes, and its place is free
+-- A serial's key is removed, and its place is freed.
 module _ (old new : Places) (keys : Keys) (serial : ℕ) (recent : AreRecent old keys)
     (noting : IsNoted None (place_of serial) old new) where
   pub removed_recent : AreRecent new (remove keys serial)
@@ -87,7 +87,7 @@ module _ (old new : Places) (keys : Keys) (serial : ℕ) (recent : AreRecent old
         | inr apart ↦ recent.found noted (sym (noting.others (place_of noted.0) apart) ∙ stands)
       ]
 
--- the last serial, as serials come and go
+-- the last serial, as serials are added and removed
 pub none_last : (last : ℕ) (keys : Keys) → keys ≡ empty → IsLast last keys
 none_last last keys none =
     record {
@@ -130,7 +130,7 @@ all_free count place =
 pub nothing_at : (place : ℕ) → at [] place ≡ None
 nothing_at place = get_or_past [] place None (omega arith)
 
--- an option that can't have a value has none
+-- an option that can't have a value is None
 pub none_alone : (P : Option (ℕ × ℕ) → Type 0) → ((x : ℕ × ℕ) → P (Some x) → ⊥) → (content : Option (ℕ × ℕ)) → P content
     → content ≡ None
 none_alone P never None clone = refl

@@ -1,4 +1,4 @@
--- How a change of the slab or of the keys changes what stands under the serials.
+-- The effect of a change of the slab or of the keys on the values of serials.
 use Rattle.std.proofs.Common.{◌≡◌, ◌≢◌, ◌⊎◌, ℕ, List, [], slice_index_or, cond, true, false, Bool, Option, None, Some, is_some, option_map, option_and_then, refl, sym, ◌∙◌, ap, inl, inr}
 use Rattle.std.proofs.lemmas.Bool.{cases_eq}
 use Rattle.std.specs.Cmp.{nat_cmp_total}
@@ -19,7 +19,7 @@ use Rattle.live_ports.proofs.Slotted.{get_slot}
 same : (m n : Slots) → ((q : ℕ) → get m q ≡ get n q) → m ≡ n
 same m n alike = same_map nat_cmp_total nat_cmp-IsAntisymmetric m n alike
 
--- what stands under one serial
+-- the value of a serial
 pub stands : (ports : Slab PortSlot) (keys : Keys) (serial : ℕ) (o : Option ℕ) → get keys serial ≡ o
     → get (by_serial ports keys) serial ≡ option_and_then (slab.get ports) o
 stands ports keys serial o is = get_picked (slab.get ports) keys serial ∙ ap (option_and_then (slab.get ports)) is
@@ -105,7 +105,7 @@ replaced_is port slots serial some = go (get slots serial) some
     go None e = absurd (cc e)
     go (Some slot) e = refl
 
--- one more port
+-- A port is added.
 module _ (old new : Slab PortSlot) (keys : Keys) (serial key : ℕ) (port : PortSlot) (keyed : AreKeyed old keys)
     (none : get keys serial ≡ None) (vacant : slab.get old key ≡ None) (updates : Updates old new key (Some port)) where
   used : (other k : ℕ) → get keys other ≡ Some k → k ≢ key
@@ -169,7 +169,7 @@ module _ (old new : Slab PortSlot) (keys : Keys) (serial key : ℕ) (port : Port
       apart one other k false first true second is too = absurd (used one k is (sym (some_same key k too)))
       apart one other k false first false second is too = keyed.apart one other k is too
 
--- one less port
+-- A port is removed.
 module _ (old new : Slab PortSlot) (keys : Keys) (serial key : ℕ) (keyed : AreKeyed old keys)
     (at : get keys serial ≡ Some key) (updates : Updates old new key None) where
   other_key : (other k : ℕ) → eq_by_cmp nat_cmp other serial ≡ false → get keys other ≡ Some k → k ≢ key
@@ -284,7 +284,7 @@ same_values old new keys is keyed =
           (ap (λ (l : List (Option PortSlot)). is_some (slice_index_or l key None)) (sym is) ∙ some);
     }
 
--- a slot in which something is to stand is settled, and one in which nothing is to stand is removed
+-- a slot is settled if it keeps a value, and removed otherwise
 pub slot_settled : (look : PortSlot → Option PortState) (settle : PortSlot → PortSlot) (slots : Slots) (serial : ℕ)
     (port : PortSlot) → Some port ≡ get slots serial → is_some (look port) ≡ true
     → slot_changed slots serial settle ≡ drained look settle slots serial

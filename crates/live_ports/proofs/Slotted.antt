@@ -1,4 +1,4 @@
--- How a change of one slot changes the ports of both states.
+-- The effect of a change of one slot on the ports before and now.
 use Rattle.std.proofs.Common.{OnOk, IfSome, ◌<◌, ◌≤◌, ◌-◌, ◌^◌, ◌≡◌, ℕ, cond, true, false, Bool, List, [], ◌∷◌, ◌++◌, length, Option, None, Some, option_map, OnErr, Result, Ok, Err, refl, sym, ◌∙◌, ap, subst, arith}
 use Rattle.std.specs.Prelude.{option_and_then}
 use Rattle.std.specs.Cmp.{nat_cmp_total}
@@ -17,7 +17,7 @@ use Rattle.live_ports.specs.Touched.{IsSettling, touched_more, touched_none, tou
 same : (m n : Ports) → ((q : ℕ) → get m q ≡ get n q) → m ≡ n
 same m n alike = same_map nat_cmp_total nat_cmp-IsAntisymmetric m n alike
 
--- what stands under a serial
+-- the value of a serial
 pub present_at : (slots : Slots) (k : ℕ) (found : Option PortSlot) → found ≡ get slots k
     → option_and_then current_of found ≡ get (present_ports slots) k
 present_at slots k found is = ap (option_and_then current_of) is ∙ sym (get_picked current_of slots k)
@@ -46,7 +46,7 @@ get_slot slots k f q = by (get slots k) refl
     by None is = at (eq_by_cmp nat_cmp q k) refl is
     by (Some slot) is = get-insert nat_cmp_total slots k (f slot) q
 
--- what a look sees once a slot is changed
+-- the value that `look` gives after a slot is changed
 look_changed : (look : PortSlot → Option PortState) (f : PortSlot → PortSlot) (g : Option PortState → Option PortState)
     → g None ≡ None → ((slot : PortSlot) → look (f slot) ≡ g (look slot)) → (slots : Slots) (k q : ℕ)
     → get (picked look (slot_changed slots k f)) q
@@ -109,7 +109,7 @@ marked_noted slots next touched more k at noted still =
     (subst (λ (m : Slots). AreMarked m (touched ++ k ∷ [])) (sym at)
     (touched_more before_of current_of slots touched k still))
 
--- a port that is born
+-- a port is added
 pub present_born : (slots next : Slots) (k : ℕ) (port : PortState)
     → next ≡ insert slots k (record { before = None; current = Some port })
     → present_ports next ≡ insert (present_ports slots) k port
@@ -160,6 +160,6 @@ pushed_room result slots k room =
     (λ (o : Option PortState). IfSome o (λ port. length port.messages < 2 ^ 32 - 1))
     (sym (get_picked current_of slots k)) r)
 
--- where there is no port there are no messages
+-- a port that isn't live has no messages
 pub nothing_at : (o : Option PortState) (index : ℕ) → o ≡ None → length (messages_in o) ≤ index
 nothing_at o index none = omega (arith, ap (λ (p : Option PortState). length (messages_in p)) none)

@@ -1,4 +1,4 @@
--- The table of ports stays valid through each change.
+-- Each change keeps the invariant of the table of ports.
 use Rattle.std.proofs.Common.{IfSome, ◌||◌, drop, length-append, ◌≡◌, ℕ, zero, suc, ◌+◌, ◌-◌, ◌<◌, ◌≤◌, ◌^◌, cond, true, false, Bool, List, [], ◌∷◌, ◌++◌, length, Option, None, Some, is_some, option_map, refl, sym, ◌∙◌, ap, subst, arith}
 use Rattle.std.specs.List.{list_any}
 use Rattle.std.specs.Cmp.{nat_cmp_total}
@@ -45,7 +45,7 @@ rest_view new raw many serial rest =
       current = record { ports = as_seen (rest.current i); next = rest.next i };
     }
 
--- the former ports are still sound
+-- the ports at the last commit or rollback keep their invariant
 pub former_sound : (old mid : Tables) → AreStanding old → SameBefore old mid
     → AreSound (former_ports mid.slots) mid.count_before mid.next_before
 former_sound old mid stands before = same_sound _ _ _ _ _ _ before.ports before.count before.next stands.before
@@ -148,7 +148,7 @@ removed_sound ports count next k lives sound =
     by key port true is = absurd (cc is)
     by key port false is = sound.below key port is
 
--- no port has a serial that was not handed out
+-- no port has a serial that wasn't used yet
 pub none_at : (ports : Ports) (count next k : ℕ) → AreSound ports count next → next ≤ k → get ports k ≡ None
 none_at ports count next k sound past = by (get ports k) refl
   where
@@ -187,7 +187,7 @@ added_sound ports count next sound room =
           short = below.short;
         }
 
--- the next serial is a later one
+-- the next serial is increased
 pub later_sound : (ports : Ports) (count next later : ℕ) → AreSound ports count next → next ≤ later
     → AreSound ports count later
 later_sound ports count next later sound past = record {
@@ -206,7 +206,7 @@ last_true : (b : Bool) → (b || false) ≡ true → b ≡ true
 last_true true e = refl
 last_true false e = absurd (cc e)
 
--- if a predicate holds of none of a list, but of some of the list with one more, it holds of that one
+-- if a predicate holds of none of a list, but of some element of the list with one more, it holds of that one
 last_holds : {A : Type 0} (p : A → Bool) (xs : List A) (y : A) → list_any p (xs ++ y ∷ []) ≡ true
     → list_any p xs ≡ false → p y ≡ true
 last_holds p [] y some none = last_true (p y) some
@@ -216,7 +216,7 @@ last_holds p (x ∷ xs) y some none =
       | false ↦ λ (e : _) (f : _). last_holds p xs y e f
     ] some none
 
--- a message that mentions only live ports is put into a queue with room for it
+-- a message whose rights are to live ports is appended to a queue with room for it
 pub pushed_sound : (ports : Ports) (count next k : ℕ) (message : Message) → AreLive (as_seen ports) message
     → IfSome (get ports k) (λ port. length port.messages < 2 ^ 32 - 1) → AreSound ports count next
     → AreSound (changed ports k (with_message message)) count next
@@ -258,7 +258,7 @@ after_shorter : {A : Type 0} (xs : List A) → length (drop 1 xs) ≤ length xs
 after_shorter [] = omega arith
 after_shorter (x ∷ xs) = omega arith
 
--- a message is taken out of a queue
+-- a message is removed from a queue
 pub taken_sound : (ports : Ports) (count next k : ℕ) → AreSound ports count next
     → AreSound (changed ports k without_first) count next
 taken_sound ports count next k = changed_sound ports count next k without_first (λ port is below. record {

@@ -1,4 +1,4 @@
--- Only what is written through a key of the slab changes.
+-- A write through a key of the slab changes only that key's value.
 use Rattle.std.proofs.Common.{◌≡◌, ℕ, None, Some, option_map, refl, sym, ◌∙◌, ap, subst}
 use Rattle.std.specs.Prelude.{IsSome}
 use Rattle.slab.specs.Slab as slab

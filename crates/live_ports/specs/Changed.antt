@@ -1,4 +1,4 @@
--- What a port keeps besides its queue, and a change of one port among all.
+-- The state of a port besides its queue, and a change of one port among all.
 use Rattle.std.specs.Prelude.{◌≡◌, ℕ, ◌<◌, ◌≤◌, List, [], ◌∷◌, ◌++◌, Option, None, Some, MatchOption, drop, length, slice_index_or}
 use Rattle.std.specs.Borrow.{Bor}
 use Rattle.std.specs.Ordering.{nat_cmp}
@@ -33,20 +33,20 @@ port_of numbers messages = record {
 abbrev pub with_numbers : PortNumbers → PortState → PortState
 with_numbers numbers port = port_of numbers port.messages
 
--- the port with one more message at its queue's end
+-- the port with one more message at the end of its queue
 abbrev pub with_message : Message → PortState → PortState
 with_message message port = record port { messages = port.messages ++ message ∷ [] }
 
--- the port without its queue's oldest message
+-- the port without its oldest message
 abbrev pub without_first : PortState → PortState
 without_first port = record port { messages = drop 1 port.messages }
 
--- the messages of a port, none where it is dead
+-- the messages of a port, or none if it is dead
 abbrev pub messages_in : Option PortState → List Message
 messages_in None = []
 messages_in (Some port) = port.messages
 
--- the ports with one of them changed, if it lives
+-- the ports after one of them has changed, if it is live
 abbrev pub changed : finmap.FinMap nat_cmp PortState → ℕ → (PortState → PortState) → finmap.FinMap nat_cmp PortState
 changed ports serial change = elim (finmap.get ports serial) as (λ _. finmap.FinMap nat_cmp PortState) [
   | None ↦ ports
@@ -56,7 +56,7 @@ changed ports serial change = elim (finmap.get ports serial) as (λ _. finmap.Fi
 abbrev pub messages_at : finmap.FinMap nat_cmp PortState → ℕ → List Message
 messages_at ports serial = messages_in (finmap.get ports serial)
 
--- what is found is the message of the index, where there is one
+-- the message at an index, or None if there is none
 abbrev pub IsMessageAt : List Message → ℕ → Option (Bor Message) → Type 0
 IsMessageAt messages index found =
     MatchOption found (length messages ≤ index)

@@ -1,4 +1,4 @@
--- The ports that changed, by their serials.
+-- The serials of the ports that changed.
 use Rattle.std.proofs.Common.{◌≡◌, ℕ, Bool, false, ◌||◌, List, [], ◌∷◌, Option, None, Some, option_map, option_and_then, refl, sym, ◌∙◌, ap}
 use Rattle.std.specs.Ordering.{nat_cmp, eq_by_cmp}
 use Rattle.std.specs.FinMap as finmap
@@ -13,8 +13,8 @@ use Rattle.tracked_map.specs.Slots.{get_picked}
 use Rattle.tracked_map.specs.Touched.{is_touched}
 use Rattle.waiting.specs.Waiting.{occupancy}
 
--- each port whose serial isn't among these lives if it lived, holds as many messages as before, with the same limit,
--- and is in the same set
+-- each port whose serial isn't in the list is live if it was live before, and then has as many messages, the same limit
+-- and the same set
 abbrev pub AreNoted : Ports → Ports → List ℕ → Type 0
 AreNoted before current serials =
     (serial : ℕ) → is_touched serial serials ≡ false
@@ -24,7 +24,7 @@ listed_touched : (key : ℕ) (keys : List ℕ) → is_listed key keys ≡ is_tou
 listed_touched key [] = refl
 listed_touched key (k ∷ ks) = ap (λ (b : Bool). eq_by_cmp nat_cmp key k || b) (listed_touched key ks)
 
--- how messages are seen doesn't change how full a queue is
+-- replacing dead ports in messages doesn't change how full a queue is
 seen_occupancy : (raw : Ports) (serial : ℕ)
     → option_map occupancy (finmap.get (as_seen raw) serial) ≡ option_map occupancy (finmap.get raw serial)
 unfolding as_seen

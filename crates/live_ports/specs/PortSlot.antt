@@ -1,4 +1,4 @@
--- A port as of the last commit or rollback, and the current one: none where it didn't live, or doesn't.
+-- A port at the last commit or rollback, and now: None if it isn't live.
 use Rattle.std.specs.Prelude.{Option, refl}
 use Rattle.std.specs.Coded.{Coded, code_by, coded×, coded_option}
 use Rattle.ipc_model.specs.declared.port.PortState.{PortState}

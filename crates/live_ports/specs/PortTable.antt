@@ -1,4 +1,4 @@
--- The live ports of a state with the next serial, as of the last commit or rollback, and the current ones.
+-- The live ports of a state and the next serial, at the last commit or rollback, and now.
 use Rattle.std.specs.Prelude.{ℕ, refl}
 use Rattle.std.specs.Ordering.{nat_cmp}
 use Rattle.std.specs.FinMap as finmap

@@ -1,4 +1,4 @@
--- How a change of the ports changes them as they are seen.
+-- The effect of a change of the ports on the ports as they are shown.
 use Rattle.std.proofs.Common.{suc, ◌≡◌, ℕ, ◌<◌, ◌≤◌, ◌==◌, cond, true, false, Bool, ◌||◌, List, [], ◌∷◌, ◌++◌, map, drop, length, Option, None, Some, is_some, option_map, MatchOption, Bor, slice_index_or, refl, sym, ◌∙◌, ap, subst, arith}
 use Rattle.std.proofs.Math.ListN.{get_or-map}
 use Rattle.std.proofs.lemmas.Bool.{eqb-true, eq-eqb}
@@ -42,7 +42,7 @@ right_true false b e = e
 same : (m n : Ports) → ((q : ℕ) → get m q ≡ get n q) → m ≡ n
 same m n alike = same_map nat_cmp_total nat_cmp-IsAntisymmetric m n alike
 
--- how messages are seen depends on which ports live
+-- two sets of live ports agree on all mentioned ports; messages with these ports are shown in the same way by both
 abbrev Agree : (ℕ → Bool) → (ℕ → Bool) → (ℕ → Bool) → Type 0
 Agree mentioned l k = (serial : ℕ) → mentioned serial ≡ true → l serial ≡ k serial
 
@@ -93,7 +93,7 @@ pub seen_alike : (l k : ℕ → Bool) (port : PortState) → Agree (λ s. list_a
 seen_alike l k port agree =
     ap (λ (ms : List Message). record port { messages = ms }) (messages_alike l k port.messages agree)
 
--- where all live, messages are seen as they are
+-- if all ports are live, messages are shown unchanged
 all_port : (port : PortInMessage) → seen_port (λ _. true) port ≡ port
 all_port in_message.Null = refl
 all_port in_message.Dead = refl
@@ -116,7 +116,7 @@ live_message ports message live =
     message_alike (lives_in ports) (λ _. true) message live ∙
     (λ i. record message { reply = all_reply message.reply i; rights = all_rights message.rights i })
 
--- what is seen under a serial
+-- the port that is shown for a serial
 pub get_seen : (raw : Ports) (q : ℕ) → get (as_seen raw) q ≡ option_map (seen (lives_in raw)) (get raw q)
 unfolding as_seen
 get_seen raw q = get-map_values (seen (lives_in raw)) raw q
@@ -160,7 +160,7 @@ lives_changed ports s f q = ap is_some (get_changed ports s f q) ∙ at (eq_by_c
     at true is = some_mapped f (get ports s) ∙ ap (λ k. is_some (get ports k)) (sym (key_is q s is))
     at false is = refl
 
--- a port that is changed by a change that shows as one of the port as seen
+-- a change of a port that has the same effect on the port as it is shown
 pub seen_changed : (raw : Ports) (s : ℕ) (f g : PortState → PortState)
     → ((port : PortState) → seen (lives_in raw) (f port) ≡ g (seen (lives_in raw) port))
     → as_seen (changed raw s f) ≡ changed (as_seen raw) s g
@@ -181,7 +181,7 @@ seen_changed raw s f g sees = same _ _ (λ q.
     at q true = here (get raw s)
     at q false = refl
 
--- a message that is put into a queue
+-- a message that is appended to a queue
 pub seen_pushed : (raw : Ports) (s : ℕ) (message : Message) → AreLive (as_seen raw) message
     → as_seen (changed raw s (with_message message)) ≡ changed (as_seen raw) s (with_message message)
 seen_pushed raw s message live = seen_changed raw s (with_message message) (with_message message) (λ port.
@@ -190,7 +190,7 @@ seen_pushed raw s message live = seen_changed raw s (with_message message) (with
     ∙ ap (λ (m : Message). map (seen_message (lives_in raw)) port.messages ++ m ∷ [])
     (live_message raw message (λ k to. sym (lives_seen raw k) ∙ live k to))))
 
--- a message that is taken out of a queue
+-- a message that is removed from a queue
 map_after : {A B : Type 0} (f : A → B) (xs : List A) → map f (drop 1 xs) ≡ drop 1 (map f xs)
 map_after f [] = refl
 map_after f (x ∷ xs) = refl
@@ -275,7 +275,7 @@ seen_removed raw s = same _ _ (λ q.
     at q true = refl
     at q false = each (get raw q)
 
--- a new port, which no message mentions
+-- a new port, which is in no message
 pub seen_added : (raw : Ports) (next : ℕ) → AreBelow next raw
     → as_seen (insert raw next new_port) ≡ insert (as_seen raw) next new_port
 seen_added raw next below = same _ _ (λ q.
@@ -303,7 +303,7 @@ seen_added raw next below = same _ _ (λ q.
     at q true = refl
     at q false = each q (get raw q) refl
 
--- what looks at a port as it is seen give
+-- The queries on a port as it is shown.
 pub length_mapped : {A B : Type 0} (f : A → B) (xs : List A) → length (map f xs) ≡ length xs
 length_mapped f [] = refl
 length_mapped f (x ∷ xs) = ap suc (length_mapped f xs)
@@ -323,7 +323,7 @@ seen_count raw q = each (get raw q) ∙ ap (λ (o : Option PortState). length (m
     each None = refl
     each (Some port) = sym (length_mapped (seen_message (lives_in raw)) port.messages)
 
--- the death of a port that is dead
+-- the death of a dead port
 pub seen_dead : (raw : Ports) (s : ℕ) → lives_in raw s ≡ false
     → as_seen raw ≡ map_values (queue_after_death s) (remove (as_seen raw) s)
 seen_dead raw s dead =
@@ -338,7 +338,7 @@ seen_dead raw s dead =
     at q true is = none (get raw q) (ap (λ k. is_some (get raw k)) (key_is q s is) ∙ dead)
     at q false is = refl
 
--- what is found is the message of the index in a port's queue, where there is one, before it is seen
+-- the message at an index in a port's queue as it was sent, or None if there is none
 abbrev pub IsSeenAt : Ports → ℕ → ℕ → Option (Bor Message) → Type 0
 IsSeenAt ports serial index found = MatchOption found (length (messages_in (get ports serial)) ≤ index)
     (λ message. (index < length (messages_in (get ports serial)))

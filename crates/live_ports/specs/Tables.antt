@@ -1,4 +1,4 @@
--- The state of the tables after changes of the table of ports.
+-- The tables after changes of the table of ports.
 use Rattle.std.specs.Prelude.{◌≡◌, ℕ, ◌≤◌, List, Option, None, Some, option_map}
 use Rattle.std.specs.Ordering.{nat_cmp}
 use Rattle.std.specs.FinMap as finmap
@@ -19,20 +19,20 @@ before_of slot = slot.before
 abbrev pub current_of : PortSlot → Option PortState
 current_of slot = slot.current
 
--- the ports as they were, and as they are, with messages as they were sent
+-- the ports before and now, with messages as they were sent
 abbrev pub former_ports : Slots → Ports
 former_ports slots = picked before_of slots
 
 abbrev pub present_ports : Slots → Ports
 present_ports slots = picked current_of slots
 
--- one slot changed, if it is there
+-- the slots after one has changed, if it exists
 abbrev pub slot_changed : Slots → ℕ → (PortSlot → PortSlot) → Slots
 slot_changed slots serial change =
     elim (finmap.get slots serial) as (λ _. Slots)
     [ None ↦ slots | Some slot ↦ finmap.insert slots serial (change slot) ]
 
--- what stands in a slot changed
+-- the current port of a slot changed
 abbrev pub present_changed : (PortState → PortState) → PortSlot → PortSlot
 present_changed change slot = record slot { current = option_map change slot.current }
 
@@ -46,18 +46,18 @@ committed_slot slot = slot_at_rest slot.current
 abbrev pub rolled_back_slot : PortSlot → PortSlot
 rolled_back_slot slot = slot_at_rest slot.before
 
--- each slot that wasn't touched is as it was
+-- each untouched slot is unchanged
 abbrev pub AreMarked : Slots → List ℕ → Type 0
 AreMarked slots touched = AreTouched before_of current_of slots touched
 
--- what the changes began with stays
+-- the state at the last commit or rollback is the same
 pub record SameBefore (old new : Tables) : Type 0 where
   pub ports : former_ports new.slots ≡ former_ports old.slots
   pub count : new.count_before ≡ old.count_before
   pub next : new.next_before ≡ old.next_before
   pub touched : AreMarked new.slots new.touched.items
 
--- the ports, their count and the next serial afterwards
+-- the current ports, their number and the next serial
 pub record AreNow (new : Tables) (raw : Ports) (many serial : ℕ) : Type 0 where
   pub ports : present_ports new.slots ≡ raw
   pub count : new.count ≡ many
@@ -73,7 +73,7 @@ pub record AreAtRest (new : Tables) (raw : Ports) (many serial : ℕ) : Type 0 w
   pub count_before : new.count_before ≡ many
   pub next_before : new.next_before ≡ serial
 
--- ports of a state: counted, no more than the bound, and below the next serial
+-- the ports of a state: counted, at most MAX_PORTS, and below the next serial
 pub record AreSound (ports : Ports) (count next : ℕ) : Type 0 where
   pub counted : count ≡ finmap.len ports
   pub few : count ≤ MAX_PORTS

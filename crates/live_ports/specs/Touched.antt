@@ -1,4 +1,4 @@
--- Tables of slots, each with what stood there and what stands there, and the keys that were touched.
+-- Tables of slots with their values before and now, and the keys that were touched.
 use Rattle.std.proofs.Common.{◌≡◌, ℕ, cond, true, false, Bool, ◌||◌, List, [], ◌∷◌, ◌++◌, Option, None, Some, is_some, refl, sym, ◌∙◌, ap, subst}
 use Rattle.std.specs.Cmp.{nat_cmp_total}
 use Rattle.std.specs.Ordering.{nat_cmp, eq_by_cmp}
@@ -28,7 +28,7 @@ both_false true b p q = absurd (cc p)
 both_false false true p q = absurd (cc q)
 both_false false false p q = refl
 
--- a key that isn't listed with the last one isn't listed before it, and isn't the last one
+-- a key that isn't in a list with one more key isn't in the list, and isn't that key
 pub not_listed : (key last : ℕ) (ks : List ℕ) → is_listed key (ks ++ last ∷ []) ≡ false → (is_listed key ks ≡ false)
     × (eq_by_cmp nat_cmp key last ≡ false)
 not_listed key last ks none =
@@ -59,35 +59,35 @@ gone_or None p none is = sym is
 gone_or (Some x) p none is = absurd (cc none)
 
 module _ {X Y : Type 0} where
-  -- an untouched slot: it holds something, and the same as before
+  -- an untouched slot: it has a value, which is the same as before
   abbrev pub IsStill : (Y → Option X) → (Y → Option X) → Y → Type 0
   IsStill before current slot = (before slot ≡ current slot) × (is_some (current slot) ≡ true)
 
-  -- each slot whose key isn't among these wasn't touched
+  -- each slot whose key isn't in the list is untouched
   abbrev pub AreTouched : (Y → Option X) → (Y → Option X) → FinMap {K = ℕ} nat_cmp Y → List ℕ → Type 0
   AreTouched before current slots touched =
       (key : ℕ) (slot : Y) → get slots key ≡ Some slot → is_listed key touched ≡ false → IsStill before current slot
 
-  -- a slot that is done: settled, or removed if nothing is to stand there
+  -- the slots after one is settled, or removed if `look` gives None
   abbrev pub drained : (Y → Option X) → (Y → Y) → FinMap {K = ℕ} nat_cmp Y → ℕ → FinMap {K = ℕ} nat_cmp Y
   drained look settle slots key = elim (get slots key) as (λ _. FinMap {K = ℕ} nat_cmp Y) [
     | None ↦ slots
     | Some slot ↦ cond (is_some (look slot)) (insert slots key (settle slot)) (remove slots key)
   ]
 
-  -- settling a slot leaves in both places what the look saw
+  -- settling a slot makes both its values what `look` gives
   pub record IsSettling (before current look : Y → Option X) (settle : Y → Y) : Type 0 where
     pub was : (slot : Y) → before (settle slot) ≡ look slot
     pub is : (slot : Y) → current (settle slot) ≡ look slot
     pub seen : (slot : Y) → look (settle slot) ≡ look slot
 
-  -- one more key among the touched ones
+  -- one more key is touched
   pub touched_more : (before current : Y → Option X) (slots : FinMap {K = ℕ} nat_cmp Y) (touched : List ℕ) (key : ℕ)
       → AreTouched before current slots touched → AreTouched before current slots (touched ++ key ∷ [])
   touched_more before current slots touched key still =
       λ q slot is none. still q slot is (not_listed q key touched none).0
 
-  -- a slot put under a touched key
+  -- a slot is set under a touched key
   pub touched_put : (before current : Y → Option X) (slots : FinMap {K = ℕ} nat_cmp Y) (touched : List ℕ) (key : ℕ)
       (value : Y) → AreTouched before current slots touched
       → AreTouched before current (insert slots key value) (touched ++ key ∷ [])
@@ -96,12 +96,12 @@ module _ {X Y : Type 0} where
       still q slot (sym (get-insert nat_cmp_total slots key value q ∙ ap
       (λ (b : Bool). cond b (Some value) (get slots q)) apart.1) ∙ is) apart.0
 
-  -- nothing is there, and nothing is touched
+  -- there are no slots, and nothing is touched
   pub touched_none : (before current : Y → Option X) (slots : FinMap {K = ℕ} nat_cmp Y) (touched : List ℕ)
       → ((q : ℕ) → get slots q ≡ None) → AreTouched before current slots touched
   touched_none before current slots touched none = λ q slot is _. absurd (cc (sym is ∙ none q))
 
-  -- where nothing is touched, what stands there is what stood there
+  -- if nothing is touched, the values before and now are the same
   pub untouched_alike : (before current : Y → Option X) (slots : FinMap {K = ℕ} nat_cmp Y)
       → AreTouched before current slots [] → picked before slots ≡ picked current slots
   untouched_alike before current slots still =
@@ -112,7 +112,7 @@ module _ {X Y : Type 0} where
     pub seen : picked look next ≡ picked look slots
     pub touched : AreTouched before current next rest
 
-  -- the last touched key is done
+  -- the last touched key is settled
   pub is_drained : (before current look : Y → Option X) (settle : Y → Y) (slots next : FinMap {K = ℕ} nat_cmp Y)
       (touched rest : List ℕ) (key : ℕ) → IsSettling before current look settle → next ≡ drained look settle slots key
       → touched ≡ rest ++ key ∷ []

@@ -9,9 +9,9 @@ use std::marker::Model;
 
 const PLACES: usize = 16384;
 
-/// The keys of serials. An ordered map has them all. A table of `PLACES` finds most of them in one look; it is made at
-/// the first insertion for which there is memory for it. No serial above `last` has a key. Contracts see the finite map
-/// from serials to keys.
+/// The slab keys of serials. An ordered map contains all of them. A cache of `PLACES` places finds most of them by one
+/// array access; it is created at the first insertion for which there is memory. No serial above `last` has a key.
+/// Contracts see the finite map from serials to keys.
 #[derive(Drop)]
 pub(crate) struct SerialKeys {
     alloc: Global,
@@ -36,7 +36,7 @@ impl Model for SerialKeys {
 }
 
 impl SerialKeys {
-    /// No keys. It takes no memory.
+    /// Creates an empty map. It allocates nothing.
     pub(crate) fn new(alloc: Global) -> Self
         ensures { result ≡ map.empty }
     {
@@ -48,7 +48,7 @@ impl SerialKeys {
         }
     }
 
-    /// The key of a serial.
+    /// Returns the key of a serial.
     pub(crate) fn get(&self, serial: u128) -> Option<usize>
         ensures { result ≡ map.get self.now serial }
     {
@@ -61,7 +61,7 @@ impl SerialKeys {
         self.keys.get(serial).copied()
     }
 
-    /// The key of a serial. From now on one look finds it, until another serial takes its place in the table.
+    /// Returns the key of a serial, and caches it, until another serial takes its place.
     pub(crate) fn find(&mut self, serial: u128) -> Option<usize>
         ensures found { result ≡ map.get self.old serial }
         ensures same { self.new ≡ self.old }
@@ -76,7 +76,7 @@ impl SerialKeys {
         Some(key)
     }
 
-    /// The least serial from `from` on that has a key, with it.
+    /// Returns the least serial with a key from `from` on, and its key.
     pub(crate) fn next_from(&self, from: u128) -> Option<(u128, &usize)>
         ensures { MatchOption result ((serial : ℕ) → from ≤ serial → map.get self.now serial ≡ None)
             (λ e. (from ≤ e.0) × (map.get self.now e.0 ≡ Some e.1.now)
@@ -107,14 +107,14 @@ impl SerialKeys {
     }
 }
 
-/// The place of a serial.
+/// Returns the place of a serial in the cache.
 fn place(serial: u128) -> usize
     ensures { result ≡ place_of serial }
 {
     (serial % PLACES as u128) as usize
 }
 
-/// What a place holds for a serial and its key. A serial that isn't a `u64` has no place.
+/// Returns the content of a place for a serial and its key, or `None` if the serial isn't a `u64`.
 fn noted(serial: u128, key: usize) -> Option<(u64, usize)>
     ensures { IfSome result (λ noted. (noted.0 ≡ serial) × (noted.1 ≡ key)) }
 {
@@ -122,7 +122,7 @@ fn noted(serial: u128, key: usize) -> Option<(u64, usize)>
     Some((short, key))
 }
 
-/// The key that stands at a serial's place, if it is the serial's.
+/// Returns the key in a serial's place, if it is this serial's.
 fn noted_key(recent: &[Option<(u64, usize)>], serial: u128) -> Option<usize>
     ensures { IfSome result (λ key. at recent.now (place_of serial) ≡ Some (serial, key)) }
 {
@@ -136,7 +136,7 @@ fn noted_key(recent: &[Option<(u64, usize)>], serial: u128) -> Option<usize>
     }
 }
 
-/// Makes the table, if there is none and there is memory for it.
+/// Creates the cache, if there is none and there is memory for it.
 fn make_places(recent: &mut Vec<Option<(u64, usize)>>, alloc: Global)
     ensures { (place : ℕ) → at recent.new.items place ≡ at recent.old.items place }
 {
@@ -145,7 +145,7 @@ fn make_places(recent: &mut Vec<Option<(u64, usize)>>, alloc: Global)
     }
 }
 
-/// A table of free places; empty if an allocation fails.
+/// Returns a cache of free places, or an empty one if an allocation fails.
 fn free_places(alloc: Global) -> Vec<Option<(u64, usize)>>
     ensures { (place : ℕ) → at result.items place ≡ None }
 {

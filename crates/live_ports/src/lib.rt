@@ -1,4 +1,4 @@
-//! The live ports, whose changes are committed or rolled back. Neither takes memory.
+//! The live ports, whose changes are committed or rolled back without allocations.
 #![tactic(auto)]
 
 mod keys;

@@ -9,19 +9,20 @@ use crate::slots::PortSlots;
 use crate::tables::Tables;
 
 impl LivePorts {
-    /// The least serial from `from` on under which a port lives. Ports that died since the last commit are passed over.
+    /// Returns the least serial from `from` on that belongs to a live port. Ports that died since the last commit are
+    /// skipped.
     pub fn next_port(&self, from: u64) -> Option<u64>
         ensures next { IsNextPort self.now.current.ports from result }
         ensures fits { IfSome result (λ serial. serial < 2 ^ 64 - 1) }
     {
-        // All serials are below the next one, which is a word.
+        // All serials are below the next one, which fits a word.
         let _next = self.tables.next;
         self.tables.next_port(from)
     }
 }
 
 impl Tables {
-    /// The least serial of a word from `from` on under which a port lives.
+    /// Returns the least serial from `from` on that fits a word and belongs to a live port.
     pub(crate) fn next_port(&self, from: u64) -> Option<u64>
         ensures { IsNextWord (present_ports self.now.slots) from result }
     {
@@ -36,7 +37,7 @@ impl Tables {
     }
 }
 
-/// The least serial of a word from `from` on that may have a slot; none before it has one.
+/// Returns the least serial from `from` on that fits a word and may have a slot. No serial in between has one.
 fn next_slot(slots: &PortSlots, from: u128) -> Option<u64>
     ensures slot { MatchOption result ((serial : ℕ) → from ≤ serial → serial < 2 ^ 64 → map.get slots.now serial ≡ None)
         (λ next. (from ≤ next) × ((serial : ℕ) → from ≤ serial → serial < next → map.get slots.now serial ≡ None)) }

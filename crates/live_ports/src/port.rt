@@ -9,25 +9,25 @@ use queue::Queue;
 use std::alloc::{AllocError, Global};
 use std::marker::Model;
 
-/// What a port has besides its queue.
+/// The state of a port besides its queue.
 #[derive(Clone, Copy, PartialEq, Eq)]
 pub struct PortNumbers {
-    /// How many messages its queue holds at most, for sends that the limit applies to.
+    /// Limit of its queue in messages, for sends to which the limit applies.
     pub limit: u32,
-    /// The sequence number that the next message received from it gets.
+    /// The sequence number of the next message that is received from it.
     pub sequence_number: u32,
-    /// How many send rights were made from its receive right (the make-send count).
+    /// Number of send rights that were made from its receive right (the make-send count).
     pub make_send_count: u32,
-    /// The name of the port set that it is a member of, in the space that holds its receive right.
+    /// The name of the port set that contains it, in the space that holds its receive right.
     pub set: Option<u32>,
-    /// The port of the no-senders request's target, if there is a request.
+    /// The target port of the no-senders request, if there is one.
     pub no_senders_target: Option<u64>,
-    /// The port of the port-destroyed request's target, if there is a request.
+    /// The target port of the port-destroyed request, if there is one.
     pub port_destroyed_target: Option<u64>,
 }
 
-/// A port whose changes, its birth and its death among them, are committed or rolled back. Contracts see the port as it
-/// was at the last commit or rollback, and as it is: none if it didn't live or doesn't.
+/// A port whose changes, including its birth and its death, are committed or rolled back. Contracts see the port at the
+/// last commit or rollback and now, each as `None` if it isn't live.
 #[derive(Drop)]
 pub(crate) struct Port {
     numbers: PortNumbers,
@@ -54,8 +54,7 @@ impl Model for Port {
 }
 
 impl Port {
-    /// A new port, which didn't live before: an empty queue with the default limit, in no set, with no requests. It
-    /// takes no memory.
+    /// Creates a new port: an empty queue with the default limit, in no set, without requests. It allocates nothing.
     pub(crate) fn new(alloc: Global) -> Self
         ensures { result ≡ record { before = None; current = Some new_port } }
     {
@@ -76,42 +75,42 @@ impl Port {
         }
     }
 
-    /// Whether the port lives.
+    /// Returns true if the port is live.
     pub(crate) fn is_there(&self) -> bool
         ensures { result ≡ is_some self.now.current }
     {
         self.lives
     }
 
-    /// Whether the port lived before.
+    /// Returns true if the port was live at the last commit or rollback.
     pub(crate) fn was_there(&self) -> bool
         ensures { result ≡ is_some self.now.before }
     {
         self.lived
     }
 
-    /// What the port has besides its queue, if it lives.
+    /// Returns the numbers of the port, if it is live.
     pub(crate) fn numbers(&self) -> Option<PortNumbers>
         ensures { result ≡ option_map numbers_of self.now.current }
     {
         if self.lives { Some(self.numbers) } else { None }
     }
 
-    /// Replaces what the port has besides its queue, if it lives.
+    /// Replaces the numbers of the port, if it is live.
     pub(crate) fn set_numbers(&mut self, numbers: PortNumbers)
         ensures { self.new ≡ record self.old { current = option_map (with_numbers numbers) self.old.current } }
     {
         self.numbers = numbers;
     }
 
-    /// How many messages are in the queue: none if the port is dead.
+    /// Returns the number of messages in the queue, or 0 if the port is dead.
     pub(crate) fn message_count(&self) -> u32
         ensures { result ≡ length (messages_in self.now.current) }
     {
         if self.lives { self.queue.len() } else { 0 }
     }
 
-    /// The message at an index, counted from the oldest.
+    /// Returns the message at an index, counted from the oldest.
     pub(crate) fn message(&self, index: u32) -> &Message
         requires { index < length (messages_in self.now.current) }
         ensures { result.now ≡ slice_index_or (messages_in self.now.current) index result.now }
@@ -119,7 +118,7 @@ impl Port {
         self.queue.message(index)
     }
 
-    /// The message at an index, counted from the oldest, if there is one.
+    /// Returns the message at an index, counted from the oldest, if there is one.
     pub(crate) fn message_at(&self, index: u32) -> Option<&Message>
         ensures { IsMessageAt (messages_in self.now.current) index result }
     {
@@ -130,8 +129,8 @@ impl Port {
         }
     }
 
-    /// Puts a message at the queue's end, whatever the limit, if the port lives. If memory runs out, nothing changed; a
-    /// queue of `u32::MAX` messages counts as out of memory.
+    /// Appends a message to the queue, regardless of the limit, if the port is live. If out of memory, nothing changed.
+    /// A queue of `u32::MAX` messages counts as out of memory.
     pub(crate) fn push_forced(&mut self, message: Message) -> Result<(), AllocError>
         ensures ok { OnOk result (self.new
             ≡ record self.old { current = option_map (with_message message) self.old.current }) }
@@ -144,21 +143,21 @@ impl Port {
         self.queue.push_forced(message)
     }
 
-    /// Takes the queue's oldest message out, if the port lives and has one.
+    /// Removes the queue's oldest message, if the port is live and has one.
     pub(crate) fn take(&mut self)
         ensures { self.new ≡ record self.old { current = option_map without_first self.old.current } }
     {
         self.queue.take();
     }
 
-    /// The port dies.
+    /// Makes the port die.
     pub(crate) fn bury(&mut self)
         ensures { self.new ≡ record self.old { current = None } }
     {
         self.lives = false;
     }
 
-    /// Commits the changes. It takes no memory.
+    /// Commits the changes. It allocates nothing.
     pub(crate) fn commit(&mut self)
         ensures { self.new ≡ slot_at_rest self.old.current }
     {
@@ -167,7 +166,7 @@ impl Port {
         self.lived = self.lives;
     }
 
-    /// Rolls the changes back. It takes no memory.
+    /// Rolls the changes back. It allocates nothing.
     pub(crate) fn roll_back(&mut self)
         ensures { self.new ≡ slot_at_rest self.old.before }
     {

@@ -16,11 +16,11 @@ use ipc_model::{CarriedRight, Message, PortInMessage};
 use std::alloc::{AllocError, Global};
 use std::marker::Model;
 
-/// The live ports by their serials, at most `MAX_PORTS`, with the serial that the next port gets. Their changes are
-/// committed or rolled back. Contracts see both as they were at the last commit or rollback, and as they are.
+/// The live ports by their serials, at most `MAX_PORTS`, with the serial of the next port. Changes are committed or
+/// rolled back. Contracts see both at the last commit or rollback, and now.
 ///
-/// Messages in queues keep the serials of ports that have died, and are seen with `MACH_PORT_DEAD` in their places, so
-/// a death visits no other queue.
+/// Queued messages keep the serials of dead ports, and are shown with `MACH_PORT_DEAD` instead, so that a death needn't
+/// visit other queues.
 #[derive(Drop)]
 pub struct LivePorts {
     pub(crate) tables: Tables,
@@ -45,7 +45,7 @@ impl Model for LivePorts {
 }
 
 impl LivePorts {
-    /// No ports; the first gets the serial 1. It takes no memory.
+    /// Creates an empty table, whose first port gets the serial 1. It allocates nothing.
     pub fn new(alloc: Global) -> Self
         ensures { result ≡ ports_at_rest (record { ports = map.empty; next = 1 }) }
     {
@@ -54,50 +54,50 @@ impl LivePorts {
         }
     }
 
-    /// How many ports live.
+    /// Returns the number of live ports.
     pub fn len(&self) -> usize
         ensures { result ≡ map.len self.now.current.ports }
     {
         self.tables.count
     }
 
-    /// Whether as many ports live as are allowed.
+    /// Returns true if no more ports may be live.
     pub fn is_full(&self) -> bool
         ensures { result ≡ nat_le MAX_PORTS (map.len self.now.current.ports) }
     {
         MAX_PORTS <= self.len()
     }
 
-    /// The serial that the next port gets.
+    /// Returns the serial of the next port.
     pub fn next_serial(&self) -> u64
         ensures { result ≡ self.now.current.next }
     {
         self.tables.next
     }
 
-    /// Whether a port lives.
+    /// Returns true if a port is live.
     pub fn contains(&self, serial: u64) -> bool
         ensures { result ≡ is_some (map.get self.now.current.ports serial) }
     {
         self.tables.contains(serial)
     }
 
-    /// What a port has besides its queue, if it lives.
+    /// Returns the numbers of a port, if it is live.
     pub fn numbers(&self, serial: u64) -> Option<PortNumbers>
         ensures { result ≡ option_map numbers_of (map.get self.now.current.ports serial) }
     {
         self.tables.numbers(serial)
     }
 
-    /// How many messages are in a port's queue: none if it is dead.
+    /// Returns the number of messages in a port's queue, or 0 if it is dead.
     pub fn message_count(&self, serial: u64) -> u32
         ensures { result ≡ length (messages_at self.now.current.ports serial) }
     {
         self.tables.message_count(serial)
     }
 
-    /// The message at an index in a port's queue as it was sent, counted from the oldest, if there is one. `seen` says
-    /// what its rights are now.
+    /// Returns the message at an index in a port's queue as it was sent, counted from the oldest, if there is one.
+    /// `seen` gives its rights as they are now.
     pub fn message_as_sent(&self, serial: u64, index: u32) -> Option<&Message>
         ensures { MatchOption result (length (messages_at self.now.current.ports serial) ≤ index)
             (λ message. (index < length (messages_at self.now.current.ports serial))
@@ -108,7 +108,7 @@ impl LivePorts {
         self.tables.message(serial, index)
     }
 
-    /// What a right of a message as it was sent is now: `MACH_PORT_DEAD` if its port has died.
+    /// Returns a right of a sent message as it is now: with `MACH_PORT_DEAD` if its port has died.
     pub fn seen(&self, carried: CarriedRight) -> CarriedRight
         ensures { result ≡ seen_right (lives_in self.now.current.ports) carried }
     {
@@ -127,14 +127,14 @@ impl LivePorts {
         }
     }
 
-    /// Shows that no queue holds more messages than a word counts. It does nothing else.
+    /// Proves that the number of messages in each queue fits a `u32`. It does nothing else.
     pub fn show_queues_short(&self)
         ensures { AreShort self.now.current.ports }
     {
         let _ = &self.tables;
     }
 
-    /// Replaces what a port has besides its queue, if it lives. If an allocation fails, the changes are rolled back.
+    /// Replaces the numbers of a port, if it is live. If an allocation fails, the changes are rolled back.
     pub fn set_numbers(&mut self, serial: u64, numbers: PortNumbers) -> Result<(), AllocError>
         ensures ok { OnOk result (self.new ≡ record self.old {
           current = record self.old.current {
@@ -152,8 +152,8 @@ impl LivePorts {
         }
     }
 
-    /// Puts a message at the end of a port's queue, whatever the limit, if the port lives. If an allocation fails, as
-    /// for a queue of `u32::MAX` messages, the changes are rolled back.
+    /// Appends a message to a port's queue, regardless of the limit, if the port is live. If an allocation fails, the
+    /// changes are rolled back. A queue of `u32::MAX` messages counts as a failed allocation.
     pub fn push(&mut self, serial: u64, message: Message) -> Result<(), AllocError>
         requires { AreLive self.old.current.ports message }
         ensures ok { OnOk result (self.new ≡ record self.old {
@@ -172,8 +172,8 @@ impl LivePorts {
         }
     }
 
-    /// Takes the oldest message of a port out of its queue, if there is one. If an allocation fails, the changes are
-    /// rolled back.
+    /// Removes the oldest message from a port's queue, if there is one. If an allocation fails, the changes are rolled
+    /// back.
     pub fn take(&mut self, serial: u64) -> Result<(), AllocError>
         ensures ok { OnOk result (self.new ≡ record self.old {
           current = record self.old.current {
@@ -191,7 +191,7 @@ impl LivePorts {
         }
     }
 
-    /// Makes a port, which gets the next serial. If an allocation fails, the changes are rolled back.
+    /// Adds a port with the next serial. If an allocation fails, the changes are rolled back.
     pub fn add(&mut self) -> Result<(), AllocError>
         requires room { map.len self.old.current.ports < MAX_PORTS }
         requires serials { self.old.current.next < 2 ^ 64 - 1 }
@@ -212,7 +212,7 @@ impl LivePorts {
         }
     }
 
-    /// Sets the serial that the next port gets, one that was never given before. It takes no memory.
+    /// Sets the serial of the next port, which was never used before. It allocates nothing.
     pub fn set_next_serial(&mut self, serial: u64)
         requires { self.old.current.next ≤ serial }
         ensures { self.new ≡ record self.old { current = record self.old.current { next = serial } } }
@@ -220,8 +220,8 @@ impl LivePorts {
         self.tables.set_next_serial(serial);
     }
 
-    /// A port dies: it is removed, and rights to it in other queues become `MACH_PORT_DEAD`. The targets of requests
-    /// stay. If it is dead, nothing changes. If an allocation fails, the changes are rolled back.
+    /// Removes a dying port. Rights to it in other queues become `MACH_PORT_DEAD`; the targets of requests stay. If it
+    /// is dead already, nothing changes. If an allocation fails, the changes are rolled back.
     pub fn bury(&mut self, serial: u64) -> Result<(), AllocError>
         ensures ok { OnOk result (self.new ≡ record self.old {
           current = record self.old.current {
@@ -242,22 +242,22 @@ impl LivePorts {
         }
     }
 
-    /// The serials of the ports that may have changed since the last commit or rollback. Every other port lives if it
-    /// lived then, and its queue is as full.
+    /// Returns the serials of the ports that may have changed since the last commit or rollback. Every other port is
+    /// live if it was live then, and has as many messages.
     pub fn changed_serials(&self) -> &[u128]
         ensures { AreNoted self.now.before.ports self.now.current.ports result.now }
     {
         self.tables.touched.as_slice()
     }
 
-    /// Commits the changes. It takes no memory.
+    /// Commits the changes. It allocates nothing.
     pub fn commit(&mut self)
         ensures { self.new ≡ ports_at_rest self.old.current }
     {
         self.tables.commit();
     }
 
-    /// Rolls the changes back. It takes no memory.
+    /// Rolls the changes back. It allocates nothing.
     pub fn roll_back(&mut self)
         ensures { self.new ≡ ports_at_rest self.old.before }
     {

@@ -1,4 +1,4 @@
-//! The slots of ports, in a slab.
+//! The slots of ports in a slab.
 ghost use Rattle.std.specs.Prelude.{◌≡◌, ℕ, ◌≤◌, ◌<◌, ◌-◌, ◌^◌, None, IfSome, MatchOption, OnOk, OnErr, length, option_copied, option_and_then};
 ghost use Rattle.std.specs.FinMap as map;
 ghost use Rattle.live_ports.specs.Changed.{with_message, with_numbers, without_first};
@@ -16,8 +16,8 @@ use std::alloc::{AllocError, Global};
 use std::marker::Model;
 use std::mem;
 
-/// Ports by their serials. They stand in a slab, whose keys are used again while serials never are; an ordered map has
-/// the key of each serial. Contracts see the finite map from serials to ports.
+/// Ports by their serials, in a slab that reuses its keys, while serials are never reused. An ordered map contains the
+/// key of each serial. Contracts see the finite map from serials to ports.
 #[derive(Drop)]
 pub(crate) struct PortSlots {
     ports: Slab<Port>,
@@ -42,7 +42,7 @@ impl Model for PortSlots {
 }
 
 impl PortSlots {
-    /// No ports. It takes no memory.
+    /// Creates an empty table. It allocates nothing.
     pub(crate) fn new(alloc: Global) -> Self
         ensures { result ≡ map.empty }
     {
@@ -52,7 +52,7 @@ impl PortSlots {
         }
     }
 
-    /// The port of a serial.
+    /// Returns the port of a serial.
     pub(crate) fn get(&self, serial: u128) -> Option<&Port>
         ensures { option_copied result ≡ map.get self.now serial }
     {
@@ -62,7 +62,7 @@ impl PortSlots {
         }
     }
 
-    /// The least serial from `from` on that may have a port; none before it has one.
+    /// Returns the least serial from `from` on that may have a port. No serial in between has one.
     pub(crate) fn next_serial(&self, from: u128) -> Option<u128>
         ensures { MatchOption result ((serial : ℕ) → from ≤ serial → map.get self.now serial ≡ None)
             (λ next. (from ≤ next) × ((serial : ℕ) → from ≤ serial → serial < next → map.get self.now serial ≡ None)) }
@@ -94,7 +94,7 @@ impl PortSlots {
         }
     }
 
-    /// Replaces what a port has besides its queue, if it lives.
+    /// Replaces the numbers of a port, if it is live.
     pub(crate) fn set_numbers(&mut self, serial: u128, numbers: PortNumbers)
         ensures { self.new ≡ slot_changed self.old serial (present_changed (with_numbers numbers)) }
     {
@@ -103,7 +103,7 @@ impl PortSlots {
         }
     }
 
-    /// Puts a message at the end of a port's queue, if it lives. If an allocation fails, nothing changed.
+    /// Appends a message to a port's queue, if the port is live. If an allocation fails, nothing changed.
     pub(crate) fn push(&mut self, serial: u128, message: Message) -> Result<(), AllocError>
         ensures ok { OnOk result (self.new ≡ slot_changed self.old serial (present_changed (with_message message))) }
         ensures room { OnOk result (IfSome (option_and_then current_of (map.get self.old serial))
@@ -116,7 +116,7 @@ impl PortSlots {
         }
     }
 
-    /// Takes the oldest message out of a port's queue, if it lives and has one.
+    /// Removes the oldest message from a port's queue, if the port is live and has one.
     pub(crate) fn take(&mut self, serial: u128)
         ensures { self.new ≡ slot_changed self.old serial (present_changed without_first) }
     {
@@ -125,7 +125,7 @@ impl PortSlots {
         }
     }
 
-    /// A port dies.
+    /// Makes a port die.
     pub(crate) fn bury(&mut self, serial: u128)
         ensures { self.new ≡ slot_changed self.old serial buried }
     {
@@ -134,7 +134,7 @@ impl PortSlots {
         }
     }
 
-    /// Commits the changes of a port. The next call finds it in one look, however many ports were made since it was.
+    /// Commits the changes of a port, and caches its key for the next call.
     pub(crate) fn commit(&mut self, serial: u128)
         ensures { self.new ≡ slot_changed self.old serial committed_slot }
     {

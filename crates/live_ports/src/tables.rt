@@ -1,4 +1,4 @@
-//! The slots of ports, with the serials of those that were changed, as a plain table.
+//! The slots of ports as a plain table, with the serials of those that were changed.
 ghost use Rattle.std.specs.Prelude.{◌≡◌, ◌<◌, ◌+◌, ◌-◌, ◌^◌, ◌∷◌, ◌++◌, [], None, Some, OnOk, OnErr, IfSome, is_some, length, option_map};
 ghost use Rattle.std.specs.FinMap as map;
 ghost use Rattle.codes.specs.declared.limits.TheConstants.{MAX_PORTS};
@@ -12,8 +12,8 @@ use crate::slots::PortSlots;
 use ipc_model::Message;
 use std::alloc::{AllocError, Global};
 
-/// The ports by their serials, the serials of those that were changed, how many live and lived, and the serials that
-/// the next port gets and would have got.
+/// The ports by their serials, the serials of those that were changed, the numbers of live ports now and before, and
+/// the next serial now and before.
 #[derive(Drop)]
 pub(crate) struct Tables {
     pub(crate) alloc: Global,
@@ -26,7 +26,7 @@ pub(crate) struct Tables {
 }
 
 impl Tables {
-    /// An empty table. It takes no memory.
+    /// Creates an empty table. It allocates nothing.
     pub(crate) fn new(alloc: Global) -> Self
         ensures { AreAtRest result map.empty 0 1 }
     {
@@ -41,7 +41,7 @@ impl Tables {
         }
     }
 
-    /// Whether a port lives.
+    /// Returns true if a port is live.
     pub(crate) fn contains(&self, serial: u64) -> bool
         ensures { result ≡ is_some (map.get (present_ports self.now.slots) serial) }
     {
@@ -51,7 +51,7 @@ impl Tables {
         }
     }
 
-    /// What a port has besides its queue, if it lives.
+    /// Returns the numbers of a port, if it is live.
     pub(crate) fn numbers(&self, serial: u64) -> Option<PortNumbers>
         ensures { result ≡ option_map numbers_of (map.get (present_ports self.now.slots) serial) }
     {
@@ -61,7 +61,7 @@ impl Tables {
         }
     }
 
-    /// How many messages are in a port's queue: none if it is dead.
+    /// Returns the number of messages in a port's queue, or 0 if it is dead.
     pub(crate) fn message_count(&self, serial: u64) -> u32
         ensures { result ≡ length (messages_at (present_ports self.now.slots) serial) }
     {
@@ -71,7 +71,7 @@ impl Tables {
         }
     }
 
-    /// The message at an index in a port's queue as it was sent, counted from the oldest, if there is one.
+    /// Returns the message at an index in a port's queue as it was sent, counted from the oldest, if there is one.
     pub(crate) fn message(&self, serial: u64, index: u32) -> Option<&Message>
         ensures { IsMessageAt (messages_at (present_ports self.now.slots) serial) index result }
     {
@@ -81,8 +81,7 @@ impl Tables {
         }
     }
 
-    /// Replaces what a port has besides its queue, if it lives. If an allocation fails, the changes must be rolled
-    /// back.
+    /// Replaces the numbers of a port, if it is live. If an allocation fails, the changes must be rolled back.
     pub(crate) fn set_numbers(
         &mut self,
         serial: u64,
@@ -98,7 +97,7 @@ impl Tables {
         Ok(())
     }
 
-    /// Puts a message at the end of a port's queue, whatever the limit, if it lives. If an allocation fails, the
+    /// Appends a message to a port's queue, regardless of the limit, if the port is live. If an allocation fails, the
     /// changes must be rolled back.
     pub(crate) fn push(&mut self, serial: u64, message: Message) -> Result<(), AllocError>
         requires { AreMarked self.old.slots self.old.touched.items }
@@ -112,8 +111,8 @@ impl Tables {
         self.slots.push(u128::from(serial), message)
     }
 
-    /// Takes the oldest message out of a port's queue, if it lives and has one. If an allocation fails, the changes
-    /// must be rolled back.
+    /// Removes the oldest message from a port's queue, if the port is live and has one. If an allocation fails, the
+    /// changes must be rolled back.
     pub(crate) fn take(&mut self, serial: u64) -> Result<(), AllocError>
         requires { AreMarked self.old.slots self.old.touched.items }
         ensures ok { OnOk result (AreNow self.new
@@ -125,7 +124,7 @@ impl Tables {
         Ok(())
     }
 
-    /// Makes a port. If an allocation fails, the changes must be rolled back.
+    /// Adds a port. If an allocation fails, the changes must be rolled back.
     pub(crate) fn add(&mut self) -> Result<(), AllocError>
         requires marked { AreMarked self.old.slots self.old.touched.items }
         requires unborn { map.get (former_ports self.old.slots) self.old.next ≡ None }
@@ -143,7 +142,7 @@ impl Tables {
         Ok(())
     }
 
-    /// The next port gets this serial.
+    /// Sets the serial of the next port.
     pub(crate) fn set_next_serial(&mut self, serial: u64)
         requires { AreMarked self.old.slots self.old.touched.items }
         ensures ok { AreNow self.new (present_ports self.old.slots) self.old.count serial }
@@ -152,7 +151,7 @@ impl Tables {
         self.next = serial;
     }
 
-    /// A port that lives dies. If an allocation fails, the changes must be rolled back.
+    /// Makes a live port die. If an allocation fails, the changes must be rolled back.
     pub(crate) fn bury(&mut self, serial: u64) -> Result<(), AllocError>
         requires marked { AreMarked self.old.slots self.old.touched.items }
         requires some { 0 < self.old.count }
@@ -166,7 +165,7 @@ impl Tables {
         Ok(())
     }
 
-    /// Commits the changes. It takes no memory.
+    /// Commits the changes. It allocates nothing.
     pub(crate) fn commit(&mut self)
         requires { AreMarked self.old.slots self.old.touched.items }
         ensures { AreAtRest self.new (present_ports self.old.slots) self.old.count self.old.next }
@@ -177,7 +176,7 @@ impl Tables {
         self.next_before = self.next;
     }
 
-    /// Rolls the changes back. It takes no memory.
+    /// Rolls the changes back. It allocates nothing.
     pub(crate) fn roll_back(&mut self)
         requires { AreMarked self.old.slots self.old.touched.items }
         ensures { AreAtRest self.new (former_ports self.old.slots) self.old.count_before self.old.next_before }
@@ -239,7 +238,7 @@ fn commit_slot(slots: &mut PortSlots, serial: u128)
     }
 }
 
-/// Rolls back the changes of a slot, which is removed if its port didn't live.
+/// Rolls back the changes of a slot, which is removed if its port wasn't live before.
 fn roll_back_slot(slots: &mut PortSlots, serial: u128)
     ensures { slots.new ≡ drained before_of rolled_back_slot slots.old serial }
 {

@@ -1,4 +1,4 @@
--- What the front of a slot shows of the slot.
+-- Facts about a slot that its front determines.
 use Rattle.std.specs.Prelude.{◌≡◌, ℕ, ◌+◌, ◌-◌, ◌%◌, ◌≤◌, List, ◌++◌, length, take, drop}
 use Rattle.std.proofs.Common.{sym, ap, inl, inr, ◌∙◌, arith, append_assoc, length-take, take-append-drop}
 use Rattle.std.proofs.Math.Seq.{take-append-add}
@@ -32,7 +32,7 @@ epoch_alike header number epoch x y whole same is =
       of_number = is.of_number;
     }
 
--- slots with one front are open alike, of one epoch,
+-- slots with the same front are open with the same epoch, or both not open
 pub open_image_alike : (x y : List ℕ) → take 24 x ≡ take 24 y → IsOpen image_header x → IsOpen image_header y
 open_image_alike x y = open_alike 24 x y (omega arith)
 
@@ -48,7 +48,7 @@ pub segment_epoch_alike : (number epoch : ℕ) (x y : List ℕ) → take 16 x �
     → IsOfEpoch number epoch y
 segment_epoch_alike number epoch x y = epoch_alike 16 number epoch x y (omega arith)
 
--- and passed over alike
+-- slots with the same front are both ignored, or neither is
 pub passed_image_alike : (epoch : ℕ) (x y : List ℕ) → take 24 x ≡ take 24 y → IsPassedImage epoch x
     → IsPassedImage epoch y
 passed_image_alike epoch x y same (inl shut) = inl (λ is_open. shut (open_image_alike y x (sym same) is_open))

@@ -1,5 +1,5 @@
--- A copy of a slot that only grows after a front: what the copy begins with was the front at some moment while the slot
--- was read.
+-- A copy of a slot that only grows after a front. The copy begins with the front that the slot had at some moment while
+-- it was read.
 use Rattle.std.specs.Prelude.{◌≡◌, ◌⊎◌, ℕ, ◌-◌, ◌<◌, List, [], ◌∷◌, ◌++◌, length, take, drop}
 use Rattle.std.proofs.Common.{zero, suc, refl, sym, ap, subst, inl, inr, ◌∙◌, arith, append_assoc, length-append, length-take, take-append-drop}
 use Rattle.std.proofs.lemmas.Bool.{cases_lt}
@@ -8,7 +8,7 @@ use Rattle.std.proofs.Math.Seq.{take-append-add}
 use Rattle.ipc_model.specs.store.Store.{IsClosed}
 use Rattle.still_disk.specs.Live.{Copied, IsCopy, nothing_yet, one_piece_more}
 
--- bytes whose gate isn't open may be truncated anywhere
+-- bytes with a closed gate, truncated anywhere, have a closed gate or none
 closed_front : (k : ℕ) (xs : List ℕ) → IsClosed xs → IsClosed (take k xs)
 closed_front zero xs closed = tt
 closed_front (suc k) [] closed = tt
@@ -27,11 +27,11 @@ module _ {Moment : Type 0} (Later : Moment → Moment → Type 0) (stays : (m : 
     (slot front : Moment → List ℕ) (begun : Moment)
     (holds : (m : Moment) → Later begun m → (beyond : List ℕ) × (slot m ≡ front m ++ beyond) × IsClosed beyond)
     (grows : (a b : Moment) → Later begun a → Later a b → (more : List ℕ) × (front b ≡ front a ++ more)) where
-  -- what was copied so far is within the front,
+  -- the copy so far is within the front
   abbrev Within : Moment → List ℕ → Type 0
   Within now copy = (rest : List ℕ) × (front now ≡ copy ++ rest)
 
-  -- or it is the front of some moment, followed by a gate that isn't open, or by nothing at the end of a slot
+  -- the copy is the front of some moment, followed by a closed gate or the end of the slot
   pub record Ends (ended : Moment) (copy : List ℕ) : Type 0 where
     pub at : Moment
     pub since : Later begun at
@@ -43,13 +43,13 @@ module _ {Moment : Type 0} (Later : Moment → Moment → Type 0) (stays : (m : 
   abbrev Reads : Moment → List ℕ → Type 0
   Reads now copy = Within now copy ⊎ ((ends : Ends now copy) × (0 < length ends.rest))
 
-  -- what is within the front is within each later one
+  -- a copy within the front is within each later front
   within_later : (a b : Moment) (copy : List ℕ) → Later begun a → Later a b → Within a copy → Within b copy
   within_later a b copy since later within =
       let more = grows a b since later in
       (within.0 ++ more.0, more.1 ∙ ap (λ l. l ++ more.0) within.1 ∙ append_assoc copy within.0 more.0)
 
-  -- one more piece of what stands after the front
+  -- one more piece of the bytes after the front
   piece_past : (now : Moment) (copy rest beyond : List ℕ) (far : ℕ) → Later begun now → 0 < far
       → front now ≡ copy ++ rest → IsClosed beyond → Reads now (copy ++ (rest ++ take far beyond))
   piece_past now copy rest [] far since some within shut =
@@ -73,7 +73,7 @@ module _ {Moment : Type 0} (Later : Moment → Moment → Type 0) (stays : (m : 
     omega (arith, some, length-take far (gate ∷ beyond)),
   )
 
-  -- One more piece of a slot whose front the copy is within: it ends within the front, or after it.
+  -- One more piece of a slot, after a copy within the front: the piece ends within the front, or after it.
   piece_within : (now : Moment) (copy : List ℕ) (count : ℕ) → Later begun now → Within now copy
       → Reads now (copy ++ take count (drop (length copy) (slot now)))
   piece_within now copy count since within =
@@ -101,7 +101,7 @@ module _ {Moment : Type 0} (Later : Moment → Moment → Type 0) (stays : (m : 
             ))
       ]
 
-  -- One more piece, of what stands there by then.
+  -- One more piece, of the contents that the slot has by then.
   piece_more : (last now : Moment) (copy : List ℕ) (count : ℕ) → Later begun last → Later last now → Reads last copy
       → Reads now (copy ++ take count (drop (length copy) (slot now)))
   piece_more last now copy count since later (inl within) =
@@ -129,7 +129,7 @@ module _ {Moment : Type 0} (Later : Moment → Moment → Type 0) (stays : (m : 
         subst (Reads now) (sym is) (piece_more last now copy count before.0 later before.1),
       )
 
-  -- A whole copy is the front of some moment while it was made, followed by nothing, or by a gate that isn't open.
+  -- A whole copy is the front of some moment while it was made, followed by nothing or a closed gate.
   pub copy_ends : (ended : Moment) (copy : List ℕ) → IsCopy Later slot begun ended copy → Ends ended copy
   copy_ends ended copy is =
       let known = reads is.last copy is.copied in

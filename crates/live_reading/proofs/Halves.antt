@@ -1,4 +1,4 @@
--- What copies of the slots stand for if they were made while the store stayed in one half of an epoch.
+-- The state that copies of the slots represent if they were made while the store was in one half of an epoch.
 use Rattle.std.specs.Prelude.{◌≡◌, ℕ, ◌+◌, ◌∷◌, Bool, true, false, List, [], ◌++◌, length}
 use Rattle.std.proofs.Common.{refl, sym, ap, subst, ◌∙◌, arith, append_assoc}
 use Rattle.std.proofs.lemmas.List.{append-nil}
@@ -38,7 +38,7 @@ front_grows epoch xs ys =
           ∙ sym (append_assoc (segment_header open_gate epoch) (batches_encoding 0 xs) beyond.0),
     )
 
--- what begins with the front of a segment and continues without an open gate encodes the segment's records
+-- bytes that begin with the front of a segment, followed by no open gate, encode the segment's records
 encodes_front : (epoch : ℕ) (slot copy : List ℕ) (batches : List (List Record)) (rest : List ℕ)
     → HoldsBatches epoch slot batches → copy ≡ front epoch batches ++ rest → IsClosed rest
     → EncodesSegment epoch copy (all_records batches)
@@ -71,7 +71,7 @@ pub passed_segment : (h : Bool) (epoch : ℕ) (slot : List ℕ) (next : List (Li
 passed_segment false epoch slot next is other = other.0
 passed_segment true epoch slot next is other = let none : 1 ≡ 0 = ap half is in absurd (omega (arith, none))
 
--- The copies are made from one moment on, while batches are appended and nothing else.
+-- The copies are made from one moment on, while batches are appended and nothing else changes.
 module _ (start : Moment) where
   e : ℕ
   e = start.epoch
@@ -79,7 +79,7 @@ module _ (start : Moment) where
   abbrev at_slot : Slot → Moment → List ℕ
   at_slot slot m = slot_of m.slots slot
 
-  -- what is copied of the epoch's own image is that image, whatever is copied after it
+  -- the copy of the epoch's own image is that image, whatever is copied after it
   pub image_copied : (begun ended : Moment) (copy : List ℕ) → Appends start begun
       → IsCopy Appends (at_slot (image_slot start.epoch)) begun ended copy → HoldsImage start.epoch copy start.base
   image_copied begun ended copy since is =
@@ -106,7 +106,7 @@ module _ (start : Moment) where
         kept = start.image.kept;
       }
 
-  -- A segment in use: its copy encodes what the segment encoded at some moment.
+  -- A segment in use: its copy encodes the records that the segment encoded at some moment.
   pub record EncodedAt (begun ended : Moment) (epoch : ℕ) (copy : List ℕ)
       (batches : Moment → List (List Record)) : Type 0 where
     pub at : Moment

@@ -95,7 +95,7 @@ module _ (begun ended : Moment) (fronts copies again : Slots)
   abbrev back : FrontsRead Later (λ m. m.slots) tried.stop ended again
   back = tried.after
 
-  -- the moments of the first reading of the fronts, and of the second
+  -- the order of the moments of the first read of the fronts, and of the second
   to_second : Later begun front.second
   to_second = later_joins begun front.first front.second front.to_first front.to_second
 
@@ -120,7 +120,7 @@ module _ (begun ended : Moment) (fronts copies again : Slots)
   second_ended : Later back.second ended
   second_ended = later_joins back.second back.third ended back.to_third back.to_last
 
-  -- and those of the copies
+  -- the order of the moments of the copies
   image0_copied : Later tried.start copied.first
   image0_copied = copy_since (at Image0) tried.start copied.first copies.image0 copied.image0
 

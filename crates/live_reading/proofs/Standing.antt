@@ -1,4 +1,4 @@
--- What a reading stands for.
+-- The state that a reading represents.
 use Rattle.std.specs.Prelude.{◌≡◌, ℕ, ◌+◌, ◌*◌, ◌%◌, ◌^◌, ◌<◌, ◌≤◌, Bool, true, false, List, [], ◌++◌, take}
 use Rattle.std.proofs.Common.{refl, sym, ap, subst, inl, inr, ◌∙◌, arith, append_assoc}
 use Rattle.std.proofs.lemmas.Bool.{cases_lt}
@@ -36,7 +36,7 @@ segment_is_of epoch slot batches fits held = record {
   of_number = refl;
 }
 
--- An image of the next epoch isn't passed over, nor is a segment.
+-- An image of the next epoch isn't ignored, nor is a segment.
 no_next_image : (e : ℕ) (x : List ℕ) → IsPassedImage e x → IsOpen image_header x → IsOfEpoch ((e + 1) % 2) (e + 1) x → ⊥
 no_next_image e x (inl shut) is_open is = shut is_open
 no_next_image e x (inr before) is_open is =
@@ -53,7 +53,7 @@ no_next_segment e x (inr before) is_open is =
     let prior : before.0 + 1 ≡ e = omega (arith, before.1) in
     absurd (omega (arith, same, prior))
 
--- a later moment whose image slot has the same front isn't of the next epoch
+-- a later moment whose image slot has the same front isn't in the next epoch
 image_front_tells : (a b : Moment) → b.epoch ≡ a.epoch + 1
     → take 24 (slot_of a.slots (image_slot (a.epoch + 1))) ≡ take 24 (slot_of b.slots (image_slot (a.epoch + 1))) → ⊥
 image_front_tells a b next same =
@@ -66,7 +66,7 @@ image_front_tells a b next same =
     (image_epoch_alike ((a.epoch + 1) % 2) (a.epoch + 1) slot mine (sym same)
     (image_header_is (a.epoch + 1) slot b.base a.fits image))
 
--- A moment at which the next segment isn't open: the front of its slot differs from that of the open segment, in this
+-- At a moment when the next segment isn't open, the front of its slot differs from that of the open segment, in this
 -- epoch or as the next epoch's own.
 segment_front_tells : (a : Moment) (slot : List ℕ) (batches : _) → a.has_turned ≡ false
     → HoldsBatches (a.epoch + 1) slot batches
@@ -207,7 +207,7 @@ module _ (begun ended : Moment) (copies : Slots) (r : Reading begun ended copies
           let none : 1 ≡ 0 = ap half (sym late ∙ then_.1) in
           absurd (omega (arith, none))
 
-  -- while the copies were made the store stayed in its half of an epoch
+  -- while the copies were made the store was in one half of an epoch
   one_half : place r.stop ≡ place r.start
   one_half =
       ap (λ k. 2 * k + half r.stop.has_turned) stop_epoch ∙ ap
@@ -246,7 +246,7 @@ module _ (begun ended : Moment) (copies : Slots) (r : Reading begun ended copies
       image_copied r.start (r.copy_begun slot) (r.copy_ended slot) (slot_of copies slot) (begun_since slot)
       (is_copied slot)
 
-  -- the copy of the other image's slot, which is passed over
+  -- the copy of the other image's slot is ignored
   image_passed : IsPassedImage r.start.epoch (slot_of copies (image_slot (r.start.epoch + 1)))
   image_passed =
       let w = r.before (image_slot (r.start.epoch + 1)) in

@@ -1,4 +1,4 @@
--- How far a store comes from one moment to a later one.
+-- The progress of a store between two moments.
 use Rattle.std.specs.Prelude.{◌≡◌, ℕ, ◌+◌, ◌*◌, ◌<◌, ◌≤◌, Bool, true, false, if◌then◌else◌, List, [], ◌++◌}
 use Rattle.std.proofs.Common.{refl, sym, ap, subst, inl, inr, ◌∙◌, arith, append_assoc}
 use Rattle.std.proofs.lemmas.List.{append-nil}
@@ -32,7 +32,7 @@ turned_place a true passed is = refl
 turned_place true false passed is = absurd (omega (arith, passed))
 turned_place false false passed is = is
 
--- within an epoch a store that has rotated stays so
+-- within an epoch a store that has rotated doesn't rotate back
 pub stays_turned : (a b : Moment) → Later a b → a.epoch ≡ b.epoch → a.has_turned ≡ true → b.has_turned ≡ true
 stays_turned a b later same =
     let passed : 2 * a.epoch + half a.has_turned ≤ 2 * b.epoch + half b.has_turned = no_earlier a b later in
@@ -66,7 +66,7 @@ more_appended a b c front back = record {
   next = back.next ∙ ap (λ l. l ++ back.next_more) front.next ∙ append_assoc a.next front.next_more back.next_more;
 }
 
--- if the store has come no further, batches were only appended
+-- if the store has made no progress, batches were only appended
 pub same_half : (a b : Moment) → Later a b → place b ≤ place a → Appends a b
 same_half a b (inl more) here = more
 same_half a b (inr past) here = absurd (omega (arith, past, here))
@@ -86,7 +86,7 @@ module _ (slot : Moment → List ℕ) (begun : Moment) where
       one_piece_more now count longer (copied_appending last copy copied (omega (arith, passed, here)))
       (same_half last now later (omega (arith, since, here))) is
 
-  -- a copy that is made while the store comes no further
+  -- a copy that is made while the store makes no progress
   pub copy_appending : (ended : Moment) (copy : List ℕ) → IsCopy Later slot begun ended copy → place ended ≤ place begun
       → IsCopy Appends slot begun ended copy
   copy_appending ended copy is here =

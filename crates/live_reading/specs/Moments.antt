@@ -1,4 +1,4 @@
--- A store in use from moment to moment, as its server changes it: what a reader meets that reads the store meanwhile.
+-- The moments of a store in use, as its server changes it while a reader reads it.
 use Rattle.std.specs.Prelude.{◌≡◌, ◌⊎◌, ℕ, ◌+◌, ◌*◌, ◌^◌, ◌<◌, ◌≤◌, Bool, true, false, if◌then◌else◌, List, [], ◌++◌, length}
 use Rattle.codes.specs.declared.limits.TheConstants.{MAX_RECORDS}
 use Rattle.disk.specs.Slots.{Slots, slot_of}
@@ -10,11 +10,11 @@ use Rattle.ipc_model.specs.store.Store.{AreRecords, IsClosed, NoneEmpty, all_rec
 use Rattle.slot_steps.specs.Steps.{image_slot, segment_slot}
 use Rattle.store_layout.specs.Standing.{IsPassedImage, IsPassedSegment}
 
--- what a segment begins with: its header and its open batches
+-- the front of a segment: its header and its open batches
 abbrev pub front : ℕ → List (List Record) → List ℕ
 front epoch batches = segment_header open_gate epoch ++ batches_encoding 0 batches
 
--- A segment of an epoch holds these batches, and after them stands a gate that isn't open, or nothing.
+-- A segment of an epoch holds these batches, followed by a closed gate or nothing.
 pub record HoldsBatches (epoch : ℕ) (slot : List ℕ) (batches : List (List Record)) : Type 0 where
   pub beyond : List ℕ
   pub encoding : slot ≡ front epoch batches ++ beyond
@@ -23,13 +23,13 @@ pub record HoldsBatches (epoch : ℕ) (slot : List ℕ) (batches : List (List Re
   pub canonical : AreRecords (all_records batches)
   pub bounded : length (all_records batches) ≤ MAX_RECORDS
 
--- the other segment, which is passed over, or which is the next one
+-- the other segment, which is ignored, or is the next one
 abbrev pub OtherSegment : Bool → ℕ → List ℕ → List (List Record) → Type 0
 OtherSegment false epoch slot next = IsPassedSegment epoch slot × (next ≡ [])
 OtherSegment true epoch slot next = HoldsBatches (epoch + 1) slot next
 
 -- A store in use at one moment: an epoch's image, the batches of its segment and, once the store has rotated to the
--- next epoch's segment, that one's batches; and the state after all of these records.
+-- next epoch's segment, the batches of that one; and the state after all of these records.
 pub record Moment : Type 0 where
   pub slots : Slots
   pub epoch : ℕ
@@ -45,12 +45,12 @@ pub record Moment : Type 0 where
   pub state : State
   pub run : Run base (all_records first ++ all_records next) state
 
--- how far a store has come: each epoch has two halves
+-- the progress of a store: each epoch has two halves
 abbrev pub place : Moment → ℕ
 place m = 2 * m.epoch + (if m.has_turned then 1 else 0)
 
--- From one moment to another in the same half of an epoch: batches are appended to the segment in use. The image, and a
--- segment that is full, stay as they are.
+-- Two moments in the same half of an epoch: batches are appended to the segment in use. The image, and a segment that
+-- is full, are unchanged.
 pub record Appends (before now : Moment) : Type 0 where
   pub epoch : now.epoch ≡ before.epoch
   pub half : now.has_turned ≡ before.has_turned
@@ -62,6 +62,6 @@ pub record Appends (before now : Moment) : Type 0 where
   pub next_more : List (List Record)
   pub next : now.next ≡ before.next ++ next_more
 
--- A later moment, or the same: batches were appended since, or the store is in a later half of an epoch.
+-- The same or a later moment: batches were appended since, or the store is in a later half of an epoch.
 abbrev pub Later : Moment → Moment → Type 0
 Later before now = Appends before now ⊎ (place before < place now)

@@ -1,4 +1,4 @@
-//! What a reader reads of a store alongside the server that has it, over moments of the store: a law and its terms.
+//! A law of reading a store while its server runs, and the definitions for it.
 #![tactic(auto)]
 
 ghost use Rattle.std.specs.Prelude.{◌+◌, ◌≤◌};
@@ -7,8 +7,8 @@ ghost use Rattle.still_disk.specs.Live.{IsReading};
 ghost use Rattle.live_reading.specs.Moments.{Later, Moment};
 ghost use Rattle.live_reading.specs.Standing.{StandFor};
 
-/// Copies of the slots that were made between two readings of their fronts which agree stand for a state that the store
-/// had meanwhile, if at most one epoch ended during that time.
+/// A reading copies the slots between two reads of their fronts that agree. The copies represent a state that the store
+/// had during the reading, if at most one epoch ended meanwhile.
 pub fn copies_stand()
     ensures { (begun ended : Moment) (copies : Slots) → IsReading Later (λ m. m.slots) begun ended copies
         → ended.epoch ≤ begun.epoch + 1 → StandFor begun ended copies }

@@ -1,4 +1,4 @@
-//! `machmap STORE` draws the store in a folder for Graphviz, and writes nothing to it.
+//! `machmap STORE` prints the store in a folder as a drawing for Graphviz, and writes nothing to the store.
 #![tactic(auto)]
 
 use command_line::{question_in, read_words, tell_about};

@@ -1,4 +1,5 @@
--- The bytes of a header, followed by a body, are the message's, and are read back.
+-- The encodings of a header and a body together are the message's encoding, and are decoded to the same header and
+-- body.
 use Rattle.std.specs.Prelude.{◌≡◌, ℕ, ◌+◌, ◌*◌, ◌/◌, ◌%◌, ◌^◌, ◌<◌, Bool, true, false, ◌==◌, List, ◌++◌, length}
 use Rattle.std.proofs.Common.{sym, ◌∙◌, ap, arith}
 use Rattle.std.proofs.lemmas.Bool.{eq-eqb}
@@ -9,7 +10,8 @@ use Rattle.msg_header.specs.Headers.{parts_by, header_bits, header_encoding, Hea
 use Rattle.words.specs.WordLaws.{little_number-word}
 use Rattle.words.specs.Words.{word}
 
--- the bytes of header and body
+-- The encodings of a header and a body together are the encoding of the message, if the header's size is the length of
+-- both.
 abbrev pub HeaderAndBodyAreAMessage : Type 0
 HeaderAndBodyAreAMessage = (header : Header) (seqno : ℕ) (body : List ℕ) → header.size ≡ header_length + length body
     → header_encoding header seqno ++ body
@@ -21,7 +23,8 @@ header_and_body header seqno body whole =
     ap (λ (size : ℕ). word (header_bits header)
     ++ (word size ++ (word header.remote ++ (word header.local ++ (word seqno ++ (word header.id ++ body)))))) whole
 
--- What is written of a header is read back: the bytes are a message with its fields, if its size is theirs.
+-- The encoding of a header whose fields fit, and whose size is the length of header and body, is a message with its
+-- fields and this body.
 abbrev pub WrittenHeadersAreRead : Type 0
 WrittenHeadersAreRead =
     (header : Header) (seqno : ℕ) (body : List ℕ) → HeaderFits header → header.size ≡ header_length + length body

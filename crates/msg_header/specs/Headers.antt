@@ -1,10 +1,10 @@
--- Headers as declared, in the words of messages. (Kernel Interfaces, mach_msg, mach_msg_header_t.)
+-- Headers, and their encoding in words. (Kernel Interfaces, mach_msg, mach_msg_header_t.)
 use Rattle.std.specs.Prelude.{ℕ, ◌+◌, ◌*◌, ◌^◌, ◌<◌, List, [], ◌∷◌, flat_map}
 use Rattle.ipc_model.specs.messages.Messages.{UsedParts, complex_bit}
 use Rattle.msg_header.specs.declared.header.Header.{Header}
 use Rattle.words.specs.Words.{word}
 
--- the parts of a message with this header and this body
+-- the used parts of a message with this header and this body
 abbrev pub parts_by : Header → List ℕ → UsedParts
 parts_by header body = record {
   size = header.size;
@@ -26,7 +26,7 @@ unfoldable pub header_encoding : Header → ℕ → List ℕ
 header_encoding header seqno =
     flat_map word (header_bits header ∷ header.size ∷ header.remote ∷ header.local ∷ seqno ∷ header.id ∷ [])
 
--- the fields of a header fit its words
+-- the fields of a header fit their bits in the words
 pub record HeaderFits (header : Header) : Type 0 where
   pub size : header.size < 2 ^ 32
   pub remote_disposition : header.remote_disposition < 2 ^ 8

@@ -10,29 +10,29 @@ use std::alloc::AllocError;
 /// `MACH_MSGH_BITS_COMPLEX`: the body has items that hold ports.
 const COMPLEX_BIT: u32 = 0x8000_0000;
 
-/// What a message's header says (`mach_msg_header_t`).
+/// A message's header (`mach_msg_header_t`).
 #[derive(Clone, Copy, Debug, PartialEq, Eq)]
 pub struct Header {
-    /// How many bytes the whole message has, header and body.
+    /// Length of the whole message in bytes, header and body.
     pub size: usize,
-    /// `MACH_MSGH_BITS_REMOTE`: how the right to the destination is handed over.
+    /// `MACH_MSGH_BITS_REMOTE`: the disposition of the right to the destination.
     pub remote_disposition: u8,
-    /// `MACH_MSGH_BITS_LOCAL`: how the reply right is handed over.
+    /// `MACH_MSGH_BITS_LOCAL`: the disposition of the reply right.
     pub local_disposition: u8,
-    /// `MACH_MSGH_BITS_COMPLEX`: whether the body holds ports.
+    /// `MACH_MSGH_BITS_COMPLEX`: true if the body holds ports.
     pub complex: bool,
     /// `msgh_remote_port`: the name of the destination.
     pub remote: u32,
     /// `msgh_local_port`: the name of the reply right.
     pub local: u32,
-    /// `msgh_id`: the sender's number for the message.
+    /// `msgh_id`: a number that the sender chooses.
     pub id: u32,
 }
 
-/// The header that a message's bytes begin with. Its size is the number of bytes: the words of size and sequence number
-/// in them are ignored, and so are bits with other meanings.
+/// Decodes the header at the front of a message. Its size is the number of bytes: the words of size and sequence number
+/// are ignored, and so are bits with other meanings.
 ///
-/// `SendMsgTooSmall`: they are fewer than 24. It takes no memory.
+/// `SendMsgTooSmall`: there are fewer than 24 bytes. It allocates nothing.
 pub fn parse(bytes: &[u8]) -> Result<Header, KernReturn>
     ensures found { IfOk result (λ header. HasUsedParts bytes.now (parts_by header (body_of bytes.now))) }
     ensures refused { IfErr result (λ code. code ≡ KernReturn.SendMsgTooSmall) }
@@ -54,7 +54,7 @@ pub fn parse(bytes: &[u8]) -> Result<Header, KernReturn>
 }
 
 impl Header {
-    // The word of bits (`msgh_bits`).
+    // Returns the word of bits (`msgh_bits`).
     fn bits(&self) -> u32
         ensures { result ≡ header_bits self.now }
     {
@@ -67,9 +67,9 @@ impl Header {
         }
     }
 
-    /// Adds the header's 24 bytes, with this sequence number (`msgh_seqno`). The size must fit four bytes.
+    /// Appends the header's 24 bytes with this sequence number (`msgh_seqno`). The size must fit four bytes.
     ///
-    /// If an allocation fails, nothing changed. It takes no memory if there is room for 24 bytes.
+    /// If an allocation fails, nothing changed. It allocates nothing if there is room for 24 bytes.
     #[tactic(auto, unfolding(crate::specs::Headers::header_encoding))]
     pub fn write_into(&self, sequence_number: u32, out: &mut Vec<u8>) -> Result<(), AllocError>
         requires { self.now.size < 2 ^ 32 }

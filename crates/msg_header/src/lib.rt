@@ -1,5 +1,5 @@
-//! Message headers (`mach_msg_header_t`, Mach 3 Kernel Interfaces): six words of four bytes, lowest byte first, which
-//! are bits, size, remote port, local port, sequence number and id.
+//! Message headers (`mach_msg_header_t`, Mach 3 Kernel Interfaces): six little-endian words of four bytes, which are
+//! bits, size, remote port, local port, sequence number and id.
 #![tactic(auto)]
 
 mod header;

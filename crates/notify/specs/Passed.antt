@@ -1,2 +1,2 @@
--- What the crates above use of the libraries below, so that they name only one of them.
+-- Re-exports from libraries below, so that crates above name only this one.
 pub use Rattle.ipc_state.specs.Passed.{PortNumbers, numbers_of}

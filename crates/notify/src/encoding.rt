@@ -20,7 +20,7 @@ const ONE_RECEIVE_RIGHT: u32 = 0x1001_2010;
 /// The descriptor of one inline 32-bit integer (type 2).
 const ONE_INTEGER: u32 = 0x1001_2002;
 
-/// A notice as a message that is sent by a send-once right, names no reply and carries no rights.
+/// Returns a notice as a message that is sent by a send-once right, names no reply and carries no rights.
 pub fn message(alloc: Global, notice: Notice) -> Result<Message, AllocError>
     ensures message { IfOk result (λ message. message ≡ notice_message (notice_meant notice)) }
     ensures plain { IfOk result (λ message. (message.reply ≡ None) × (message.rights ≡ [])) }
@@ -33,7 +33,7 @@ pub fn message(alloc: Global, notice: Notice) -> Result<Message, AllocError>
     }
 }
 
-/// A notice that reports one word.
+/// Returns a notice that contains one word.
 fn plain(alloc: Global, id: u32, descriptor: u32, number: u32) -> Result<Message, AllocError>
     ensures { IfOk result (λ message. message
         ≡ record {
@@ -69,7 +69,7 @@ fn without_rights(id: u32, alloc: Global, body: Vec<u8>) -> Message
     }
 }
 
-/// The notice that the receive right of a port would have been destroyed, as a message that carries it
+/// Returns the notice that a port's receive right would have been destroyed, in a message that carries the right
 /// (`MACH_NOTIFY_PORT_DESTROYED`).
 pub fn port_destroyed(alloc: Global, serial: u64) -> Result<Message, AllocError>
     ensures { IfOk result (λ message. message ≡ notice_message (notice.PortDestroyed serial)) }
@@ -90,7 +90,7 @@ pub fn port_destroyed(alloc: Global, serial: u64) -> Result<Message, AllocError>
     })
 }
 
-/// A body with one item of one word.
+/// Returns a body with one item of one word.
 fn one_item(alloc: Global, descriptor: u32, number: u32) -> Result<Vec<u8>, AllocError>
     ensures { IfOk result (λ body. body.items ≡ word descriptor ++ word number) }
 {

@@ -8,8 +8,8 @@ use ipc_model::{Entry, PortRights};
 use ipc_state::{IpcState, PortNumbers};
 use std::alloc::AllocError;
 
-/// Sets the target of a port's no-senders request; without a target, the request is taken or cancelled. Returns the
-/// former target. If an allocation fails, the changes must be rolled back.
+/// Sets the target of a port's no-senders request, or removes the request if there is no target. Returns the former
+/// target. If an allocation fails, the changes must be rolled back.
 pub fn replace_no_senders(
     state: &mut IpcState,
     port: u64,
@@ -33,8 +33,8 @@ pub fn replace_no_senders(
     Ok(former)
 }
 
-/// Sets the target of a port's port-destroyed request; without a target, the request is taken or cancelled. Returns the
-/// former target. If an allocation fails, the changes must be rolled back.
+/// Sets the target of a port's port-destroyed request, or removes the request if there is no target. Returns the former
+/// target. If an allocation fails, the changes must be rolled back.
 pub fn replace_port_destroyed(
     state: &mut IpcState,
     port: u64,
@@ -58,8 +58,8 @@ pub fn replace_port_destroyed(
     Ok(former)
 }
 
-/// What a name stands for, with this dead-name request in place of its own. A set has none, and for a dead name the
-/// notice comes at once.
+/// Returns an entry with its dead-name request replaced. A set has none, and the notice about a dead name is sent at
+/// once.
 pub fn with_request(entry: Entry, target: Option<u64>) -> Entry
     ensures entry { result ≡ with_request target entry }
     ensures few { AreFewReferences entry → AreFewReferences result }

@@ -1,4 +1,4 @@
--- The entries of a std map seen as a finite map.
+-- The entries of a std map as a finite map.
 use Rattle.std.proofs.Common.{◌≡◌, ◌≤◌, ◌<◌, ℕ, ◌+◌, Bool, true, ◌&&◌, false, subst, slice_get, cond, List, [], ◌∷◌, length, Option, None, Some, is_some, refl, sym, ◌∙◌, ap, arith}
 use Rattle.std.specs.Cmp.{nat_cmp_total, eq_by_cmp_equiv, ranked}
 use Rattle.std.specs.Ordering.{nat_cmp}
@@ -31,12 +31,12 @@ module _ {X : Type 0} where
   pub get_viewed : (es : List (ℕ × X)) (q : ℕ) → get (from_entries {R = nat_cmp} es) q ≡ lookup (is_at (nat_cmp q)) es
   get_viewed es q = get-from_entries nat_cmp_total es q ∙ find_lookup es q
 
-  -- what is found among the entries is what the map has
+  -- the value found among the entries is the map's
   pub got : (es : List (ℕ × X)) (k : ℕ) (m : FinMap {K = ℕ} nat_cmp X) (found : Option X)
       → found ≡ lookup (is_at (nat_cmp k)) es → from_entries {R = nat_cmp} es ≡ m → found ≡ get m k
   got es k m found is view = is ∙ sym (get_viewed es k) ∙ ap (λ n. get n k) view
 
-  -- a key below all others isn't among them
+  -- a key below all others isn't among the entries
   pub absent_below : (k : ℕ) (es : List (ℕ × X)) → AllByRecursion (λ y. nat_cmp k y ≡ Less) (keys_of es)
       → lookup (is_at (nat_cmp k)) es ≡ None
   absent_below k [] below = refl
@@ -65,12 +65,12 @@ module _ {X : Type 0} where
       ∙ ap (put nat_cmp e.0 e.1) (entries_viewed es (sorted_tail nat_cmp e.0 (keys_of es) sorted))
       ∙ put_below e.0 e.1 es (sorted_head nat_cmp e.0 (keys_of es) sorted)
 
-  -- the entries of a std map, in ascending order of keys, are those of the map that it is seen as
+  -- the entries of a std map, in ascending order of keys, are those of the finite map
   pub same_rest : (es rest : List (ℕ × X)) (m : FinMap {K = ℕ} nat_cmp X) → from_entries {R = nat_cmp} es ≡ m
       → IsStrictlySortedBy nat_cmp (keys_of es) → rest ≡ es → rest ≡ entries m
   same_rest es rest m view sorted is = is ∙ sym (entries_viewed es sorted) ∙ ap (λ n. entries n) view
 
-  -- entries that differ at one key make maps that differ there
+  -- entries that differ at one key give maps that differ there
   pub inserted : (es fs : List (ℕ × X)) (k : ℕ) (v : X)
       → ((q : ℕ) → lookup (is_at (nat_cmp q)) fs ≡ cond (is_at (nat_cmp k) q) (Some v) (lookup (is_at (nat_cmp q)) es))
       → from_entries {R = nat_cmp} fs ≡ insert (from_entries es) k v
@@ -225,7 +225,7 @@ module _ {X : Type 0} (from : ℕ) (m : FinMap {K = ℕ} nat_cmp X) where
           )
       go rest false off = rest at le (past_first at e es (omega (arith, le, before_from from e.0 off)) has) beyond.1
 
--- what a range of a std map has from a key on
+-- the entries of a std map's range from a key on
 all_beyond : {X : Type 0} (from : ℕ) (es : List (ℕ × X)) → AllByRecursion (λ y. from ≤ y → from ≤ y) (keys_of es)
 all_beyond from [] = tt
 all_beyond from (e ∷ es) = (λ (le : _). le, all_beyond from es)

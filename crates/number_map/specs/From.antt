@@ -3,7 +3,7 @@ use Rattle.std.specs.Prelude.{◌≡◌, ℕ, ◌+◌, ◌≤◌, ◌<◌, List,
 use Rattle.std.specs.Ordering.{nat_cmp}
 use Rattle.std.specs.FinMap as map
 
--- a list has the entries of a map from a key on, in ascending order of keys
+-- the list of a map's entries from a key on, in ascending order of keys
 abbrev pub IsFrom : {X : Type 0} → map.FinMap {K = ℕ} nat_cmp X → ℕ → List (ℕ × X) → Type 0
 IsFrom m from [] = (key : ℕ) → from ≤ key → map.get m key ≡ None
 IsFrom m from (e ∷ rest) =

@@ -34,7 +34,7 @@ impl<V> Model for NumberMap<V> {
 }
 
 impl<V> NumberMap<V> {
-    /// An empty map. It takes no memory.
+    /// Creates an empty map. It allocates nothing.
     pub fn new(alloc: Global) -> Self
         ensures { result ≡ map.empty }
     {
@@ -43,35 +43,35 @@ impl<V> NumberMap<V> {
         }
     }
 
-    /// How many keys have a value.
+    /// Returns the number of keys with a value.
     pub fn len(&self) -> usize
         ensures { result ≡ map.len self.now }
     {
         self.entries.len()
     }
 
-    /// Whether no key has a value.
+    /// Returns true if no key has a value.
     pub fn is_empty(&self) -> bool
         ensures { result ≡ (map.len self.now == 0) }
     {
         self.len() == 0
     }
 
-    /// Whether a key has a value.
+    /// Returns true if a key has a value.
     pub fn contains_key(&self, key: u128) -> bool
         ensures { result ≡ is_some (map.get self.now key) }
     {
         self.entries.contains_key(&key)
     }
 
-    /// The value of a key.
+    /// Returns the value of a key.
     pub fn get(&self, key: u128) -> Option<&V>
         ensures { option_copied result ≡ map.get self.now key }
     {
         self.entries.get(&key)
     }
 
-    /// The value of a key, to be changed in place. What is left there is the key's value afterwards.
+    /// Returns the value of a key for changes in place. The value that the borrow leaves there becomes the key's value.
     pub fn get_mut(&mut self, key: u128) -> Option<&mut V>
         ensures* writes_back { sem 𝓛 (LendsIf (the_row V.row) V.row self.entry result
             (map.insert self.old key) self.old) }
@@ -80,7 +80,7 @@ impl<V> NumberMap<V> {
         self.entries.get_mut(&key)
     }
 
-    /// The least key from this one on that has a value, with its value.
+    /// Returns the least key with a value from this one on, and its value.
     pub fn next_from(&self, from: u128) -> Option<(u128, &V)>
         ensures { MatchOption result ((key : ℕ) → from ≤ key → map.get self.now key ≡ None)
             (λ e. (from ≤ e.0) × (map.get self.now e.0 ≡ Some e.1.now)
@@ -92,7 +92,7 @@ impl<V> NumberMap<V> {
         Some((*key, value))
     }
 
-    /// The entries from this key on, in ascending order of keys.
+    /// Returns the entries from this key on, in ascending order of keys.
     pub fn range_from(&self, from: u128) -> Range<'_, u128, V>
         ensures rest { IsFrom self.now from result }
         ensures runs { ShowsInOrder (deref_pair {K = ℕ} {X = V}) }
@@ -100,7 +100,7 @@ impl<V> NumberMap<V> {
         self.entries.range(from..)
     }
 
-    /// The entries, in ascending order of keys.
+    /// Returns the entries, in ascending order of keys.
     #[tactic(auto, using(crate::proofs::Viewed::same_rest))]
     pub fn iter(&self) -> Iter<'_, u128, V>
         ensures rest { result ≡ map.entries self.now }
@@ -112,8 +112,8 @@ impl<V> NumberMap<V> {
 }
 
 impl<V: Drop> NumberMap<V> {
-    /// Sets the value of a key, and returns the one before. It can run out of memory only for a key without a value,
-    /// and then nothing changed.
+    /// Sets the value of a key, and returns the former one. It allocates only for a key without a value. If that fails,
+    /// nothing changed.
     pub fn insert(&mut self, key: u128, value: V) -> Result<Option<V>, AllocError>
         ensures before { IfOk result (λ before. before ≡ map.get self.old key) }
         ensures ok { OnOk result (self.new ≡ map.insert self.old key value) }

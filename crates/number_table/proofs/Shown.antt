@@ -1,4 +1,4 @@
--- How rows are seen: each number has what its row has.
+-- The rows as a finite map: the value of each number is its row's.
 use Rattle.std.proofs.Common.{◌≡◌, ◌<◌, ◌≤◌, ℕ, zero, suc, ◌+◌, Bool, true, false, cond, List, [], ◌∷◌, ◌++◌, length, Option, None, Some, refl, sym, ◌∙◌, ap, arith, ◌⊎◌, inl, inr, slice_index_or, slice_set}
 use Rattle.std.proofs.lemmas.Bool.{cases_eq, cases_lt}
 use Rattle.std.proofs.lemmas.List.{get_or_past, get_or-set_same, get_or-set_other}
@@ -48,14 +48,14 @@ module _ {X : Type 0} where
       with_row (rows_from (first + 1) rows) first (first + suc k) x (λ same. absurd (omega (arith, same)))
       ∙ ap (get (rows_from (first + 1) rows)) (omega arith) ∙ row_at rows (first + 1) k
 
-  -- each number has what its row has
+  -- the value of each number is its row's
   pub found : (rows : List (Option X)) (number : ℕ) → get (rows_from 0 rows) number ≡ slice_index_or rows number None
   found rows number = ap (get (rows_from 0 rows)) (omega arith) ∙ row_at rows 0 number
 
   pub none_past : (rows : List (Option X)) (number : ℕ) → length rows ≤ number → get (rows_from 0 rows) number ≡ None
   none_past rows number past = found rows number ∙ get_or_past rows number None past
 
-  -- what a row has is what the number has in the map that the rows are seen as
+  -- a row's value is the number's in the finite map
   pub got : (rows : List (Option X)) (number : ℕ) (m : FinMap {K = ℕ} nat_cmp X) (value : Option X)
       → value ≡ slice_index_or rows number None → rows_from 0 rows ≡ m → value ≡ get m number
   got rows number m value is view = is ∙ sym (found rows number) ∙ ap (λ n. get n number) view
@@ -65,7 +65,7 @@ module _ {X : Type 0} where
   got_none rows seen number m same past view =
       sym (none_past seen number past) ∙ ap (λ l. get (rows_from 0 l) number) same ∙ ap (λ n. get n number) view
 
-  -- numbers whose rows have nothing
+  -- rows without values
   pub none_before : (rows : List (Option X)) (from at : ℕ) (m : FinMap {K = ℕ} nat_cmp X)
       → ((number : ℕ) → from ≤ number → number < at → slice_index_or rows number None ≡ None) → rows_from 0 rows ≡ m
       → (number : ℕ) → from ≤ number → number < at → get m number ≡ None
@@ -80,7 +80,7 @@ module _ {X : Type 0} where
     | inr more ↦ sym (got_none rows seen number m same (omega (arith, past, more)) view)
   ]
 
-  -- a row that is written
+  -- a row is replaced
   row_set : (rows : List (Option X)) (at : ℕ) (row : Option X) → at < length rows → (q : ℕ)
       → slice_index_or (slice_set rows at row) q None ≡ cond (eq_by_cmp nat_cmp q at) row (slice_index_or rows q None)
   row_set rows at row low q = elim (cases_eq q at) [
@@ -107,7 +107,7 @@ module _ {X : Type 0} where
       ∙ ap (cond (eq_by_cmp nat_cmp q at) None) (sym (found rows q))
       ∙ sym (get-remove nat_cmp_total (rows_from 0 rows) at q))
 
-  -- a number without a row has nothing to take
+  -- removing a number without a row changes nothing
   pub removed_past : (rows : List (Option X)) (at : ℕ) → length rows ≤ at
       → rows_from 0 rows ≡ remove (rows_from 0 rows) at
   removed_past rows at past = same_map nat_cmp_total nat_cmp-IsAntisymmetric _ _ (λ (q : ℕ).
@@ -122,7 +122,7 @@ module _ {X : Type 0} where
           sym (ap (λ (b : Bool). cond b None (get (rows_from 0 rows) q))
           (other_key q at apart (eq_by_cmp nat_cmp q at) refl))
 
-  -- a row without a value after the others
+  -- a row without a value is appended
   pub grown : (rows : List (Option X)) (first : ℕ) → rows_from first (rows ++ None ∷ []) ≡ rows_from first rows
   grown [] first = refl
   grown (None ∷ rows) first = grown rows (first + 1)

@@ -1,9 +1,9 @@
--- Rows by their numbers, as a finite map.
+-- Rows by number, as a finite map.
 use Rattle.std.specs.Prelude.{ℕ, ◌+◌, List, [], ◌∷◌, Option, None, Some}
 use Rattle.std.specs.Ordering.{nat_cmp}
 use Rattle.std.specs.FinMap as map
 
--- the rows that have a value, if the first row has this number
+-- the map of the rows with a value, where the first row has this number
 abbrev pub rows_from : {X : Type 0} → ℕ → List (Option X) → map.FinMap {K = ℕ} nat_cmp X
 rows_from first [] = map.empty
 rows_from first (None ∷ rows) = rows_from (first + 1) rows

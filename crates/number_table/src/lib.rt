@@ -1,4 +1,4 @@
-//! A map from small numbers to values, each found by one look into an array. Contracts see it as a finite map.
+//! A map from small numbers to values. A look-up is one array access. Contracts see it as a finite map.
 #![tactic(auto)]
 
 ghost use Rattle.std.specs.Prelude.{◌≡◌, ◌≤◌, ◌<◌, ℕ, IfOk, OnOk, OnErr, MatchOption, None, Some, option_copied, length, slice_index_or, slice_set};
@@ -12,8 +12,8 @@ use std::alloc::{AllocError, Global};
 use std::marker::Model;
 use std::mem;
 
-/// A map from numbers to values, as an array that is as long as the greatest number so far requires. So it suits
-/// numbers that are given out from the least on. A look-up among many values takes as long as among few.
+/// A map from numbers to values. It is an array up to the greatest number so far, so it suits numbers that are
+/// allocated from the least on. A look-up takes constant time.
 #[derive(Drop)]
 pub struct NumberTable<V> {
     rows: Vec<Option<V>>,
@@ -33,7 +33,7 @@ impl<V> Model for NumberTable<V> {
 }
 
 impl<V> NumberTable<V> {
-    /// An empty table. It takes no memory.
+    /// Creates an empty table. It allocates nothing.
     pub fn new(alloc: Global) -> Self
         ensures { result ≡ map.empty }
     {
@@ -42,7 +42,7 @@ impl<V> NumberTable<V> {
         }
     }
 
-    /// The value of a number.
+    /// Returns the value of a number.
     pub fn get(&self, number: u32) -> Option<&V>
         ensures { option_copied result ≡ map.get self.now number }
     {
@@ -52,7 +52,8 @@ impl<V> NumberTable<V> {
         }
     }
 
-    /// The value of a number, to be changed in place. What is left there is the number's value afterwards.
+    /// Returns the value of a number for changes in place. The value that the borrow leaves there becomes the number's
+    /// value.
     pub fn get_mut(&mut self, number: u32) -> Option<&mut V>
         ensures* writes_back { sem 𝓛 (LendsIf (the_row V.row) V.row self.entry result
             (map.insert self.old number) self.old) }
@@ -64,7 +65,7 @@ impl<V> NumberTable<V> {
         }
     }
 
-    /// The least number from this one on that has a value, with its value.
+    /// Returns the least number with a value from this one on, and its value.
     pub fn next_from(&self, from: u64) -> Option<(u64, &V)>
         ensures { MatchOption result ((number : ℕ) → from ≤ number → map.get self.now number ≡ None)
             (λ e. (from ≤ e.0) × (map.get self.now e.0 ≡ Some e.1.now)
@@ -82,8 +83,8 @@ impl<V> NumberTable<V> {
 }
 
 impl<V: Drop> NumberTable<V> {
-    /// Sets the value of a number, and returns the one before. It can run out of memory only for a number without a
-    /// value, and then nothing changed.
+    /// Sets the value of a number, and returns the former one. It allocates only for a number without a value. If that
+    /// fails, nothing changed.
     pub fn insert(&mut self, number: u32, value: V) -> Result<Option<V>, AllocError>
         ensures before { IfOk result (λ before. before ≡ map.get self.old number) }
         ensures ok { OnOk result (self.new ≡ map.insert self.old number value) }
@@ -109,7 +110,7 @@ impl<V: Drop> NumberTable<V> {
     }
 }
 
-/// Makes the array long enough for this number. If an allocation fails, it was too short.
+/// Extends the array so that it has this index. It allocates only if the array is too short.
 fn grow<V: Drop>(rows: &mut Vec<Option<V>>, at: usize) -> Result<(), AllocError>
     ensures same { rows_from 0 rows.new.items ≡ rows_from 0 rows.old.items }
     ensures long { OnOk result (at < length rows.new.items) }
@@ -121,7 +122,7 @@ fn grow<V: Drop>(rows: &mut Vec<Option<V>>, at: usize) -> Result<(), AllocError>
     Ok(())
 }
 
-/// Replaces the item at a place of the array, and returns the one before.
+/// Replaces the item at an index of the array, and returns the former one.
 fn replace_at<V>(rows: &mut Vec<Option<V>>, at: usize, row: Option<V>) -> Option<V>
     requires { at < length rows.old.items }
     ensures before { result ≡ slice_index_or rows.old.items at None }

@@ -1,5 +1,5 @@
-//! A disk in memory that keeps its slots and nothing else, for measures and for tests of many calls. It keeps no disk
-//! model: a sync does nothing.
+//! A disk in memory that only stores its slots, for measurements and for tests of many calls. It has no disk model: a
+//! sync does nothing.
 #![tactic(auto)]
 
 mod plain;

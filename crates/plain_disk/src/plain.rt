@@ -4,7 +4,7 @@ ghost use Rattle.plain_disk.specs.Bytes.{bytes_of};
 use disk::{Disk, DiskFault, Slot};
 use std::alloc::{AllocError, Global};
 
-/// Slots as they are read.
+/// The slots as reads return them.
 #[derive(Drop)]
 pub struct PlainDisk {
     image0: Vec<u8>,
@@ -15,7 +15,7 @@ pub struct PlainDisk {
 }
 
 impl PlainDisk {
-    /// Empty slots. It takes no memory.
+    /// Creates a disk with empty slots. It allocates nothing.
     pub fn new(alloc: Global) -> PlainDisk
         ensures images { (result.image0.items ≡ []) × (result.image1.items ≡ []) }
         ensures segments { (result.segment0.items ≡ []) × (result.segment1.items ≡ []) }
@@ -30,7 +30,7 @@ impl PlainDisk {
         }
     }
 
-    /// How many bytes a slot has.
+    /// Returns the length of a slot in bytes.
     pub fn len(&self, slot: Slot) -> u64
         ensures { result ≡ length (bytes_of self.now slot) }
     {
@@ -49,7 +49,7 @@ impl PlainDisk {
     }
 }
 
-/// Writes over the bytes from a place on, and past the end.
+/// Overwrites the bytes from offset `at` on, and appends those past the end.
 fn put(bytes: &mut Vec<u8>, at: u64, new: &[u8]) -> Result<(), AllocError> {
     let at = (at as usize).min(bytes.len());
     bytes.reserve(new.len())?;

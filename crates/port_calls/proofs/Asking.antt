@@ -1,4 +1,4 @@
--- What is known after the tests of a request, and how many names there are once it is made.
+-- Facts that the tests of a request establish, and the number of names after it.
 use Rattle.std.proofs.Common.{◌≡◌, ℕ, ◌+◌, ◌<◌, Bool, true, false, cond, ◌==◌, ◌&&◌, List, [], ◌∷◌, ◌++◌, Option, None, Some, is_some, refl, sym, ◌∙◌, ap}
 use Rattle.std.proofs.lemmas.Bool.{leb-false}
 use Rattle.std.specs.Prelude.{is_none, not, option_and_then, if◌then◌else◌}
@@ -30,7 +30,7 @@ use Rattle.ipc_model.specs.calls.Tests.{Tests, first_failing}
 use Rattle.rights.specs.Passed.{names_added}
 use Rattle.rights.specs.Passed.{or_empty}
 
--- tests after others
+-- tests that follow other tests
 
 pub fails_first : (xs ys : Tests) (code : KernReturn) → first_failing xs ≡ Some code
     → first_failing (xs ++ ys) ≡ Some code
@@ -106,7 +106,7 @@ module _ (state : Ipc) (space name variant sync : ℕ) (cancels : Bool)
       ap (λ (b : Bool). b && names_are_used_up (names_in state space)) (sym asked) ∙ last in
       leb-false MAX_NAMES (finmap.len (names_in state space)) not_full
 
--- a name that stands for something that can't have the request
+-- an entry that can't have the request
 pub variant_fails : (state : Ipc) (space name variant sync : ℕ) (cancels : Bool) (code : KernReturn)
     → is_no_name (names_in state space) name ≡ false
     → first_failing (tests_of_variant (names_in state space) name variant sync cancels) ≡ Some code
@@ -120,7 +120,7 @@ variant_fails state space name variant sync cancels code named fails =
     ap (λ (b : Bool). if b then Some InvalidName else first_failing rest) named
     ∙ fails_first (tests_of_variant (names_in state space) name variant sync cancels) last code fails
 
--- a request takes no name, and makes none
+-- a request neither uses nor frees a name
 
 abbrev names_of : Ipc → ℕ → ℕ
 names_of state space = finmap.len (names_in state space)
@@ -195,7 +195,7 @@ as_many_names state space name variant sync target =
           (received_request state space variant sync target (received_port entry))
     ] refl
 
--- the tests after copy in are those of the state that it leaves
+-- the tests after copy in are those of the state that copy in leaves
 
 taken_tests : (o : Option Taken) (old new : Ipc) (waiting after : List Effect) (right : CarriedRight) (serial : ℕ)
     (code : KernReturn) (later : Ipc → Tests) → Takes o old waiting (Some right) new after → right.port ≡ Live serial

@@ -1,4 +1,4 @@
--- What the reply on the status of a set shows.
+-- The reply with a set's status lists the set's members.
 use Rattle.std.proofs.Common.{◌≡◌, ℕ, [], Some, false, refl}
 use Rattle.std.specs.FinMap as finmap
 use Rattle.ipc_model.specs.calls.Actions.{Done}

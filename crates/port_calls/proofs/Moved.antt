@@ -1,4 +1,4 @@
--- The members of a renamed set go along with it: its name may change before they do.
+-- A renamed set takes its members along. Changing its name first gives the same state.
 use Rattle.std.proofs.Common.{◌≡◌, ℕ, List, [], ◌∷◌, Option, None, Some, IsSome, refl, ◌∙◌, ap}
 use Rattle.std.specs.FinMap as finmap
 use Rattle.ipc_model.specs.declared.entry.Entry.{Entry}

@@ -13,8 +13,8 @@ abbrev pub is_refusal : PlainReply → Bool
 is_refusal (reply.Refused number code) = true
 is_refusal _ = false
 
--- A call that was tried on a copy. If it is refused, the state from before stays and the copy is to be rolled back;
--- otherwise the copy is the state that the call's own action leaves, and these are the effects that it sets off.
+-- A call was tried on a copy. If it is refused, its action leaves the old state unchanged, and the copy is to be rolled
+-- back. Otherwise the copy is the state after the call's own action, with these effects.
 abbrev pub Tries : Ipc → ℕ → PlainCall → PlainReply → Ipc → List Effect → Type 0
 Tries old space c answer new effects =
     MatchBool (is_refusal answer) (ActsIn old space (names_in old space) c answer old [])

@@ -16,8 +16,8 @@ use ipc_model::PlainReply;
 use rights::IpcState;
 use std::alloc::AllocError;
 
-/// `mach_port_allocate`: a new name with a new right. The name is the preferred one if it is unused, else the least
-/// unused one from `FIRST_NAME` on. If an allocation fails, the changes must be rolled back.
+/// `mach_port_allocate`: creates a right under a new name, which is the preferred one if it is unused, otherwise the
+/// least unused one from `FIRST_NAME` on. If an allocation fails, the changes must be rolled back.
 #[tactic(auto, unfolding(ipc_model::specs::calls::PortCalls::tests_of, ipc_model::specs::calls::Actions::Done))]
 pub fn allocate(
     state: &mut IpcState,
@@ -28,7 +28,7 @@ pub fn allocate(
     requires there { IsSome (map.get state.old.current.spaces space) }
     requires fresh { map.get state.old.current.ports state.old.current.next ≡ None }
     ensures acts { Acts state.old.current space (call.Allocate right) result state.new.current [] }
-    // If the call may be answered with the preferred name, it is.
+    // If a reply with the preferred name is possible, it is the reply.
     ensures wanted { IfOk result (λ reply. (shown : ℕ) → wanted ≡ Some shown → (new : Ipc) → (effects : List Effect)
         → ActsIn state.old.current space (names_in state.old.current space) (call.Allocate right)
         (PlainReply.Allocate shown) new effects → reply ≡ PlainReply.Allocate shown) }
@@ -42,7 +42,7 @@ pub fn allocate(
     Ok(PlainReply::Allocate { name })
 }
 
-/// The name that a new right gets: the preferred one if it is unused, else the least unused one.
+/// Returns the name of a new right: the preferred one if it is unused, otherwise the least unused one.
 pub fn chosen_name(state: &IpcState, space: u32, wanted: Option<u32>) -> u32
     ensures unused { IsUnused (names_in state.now.current space) result }
     ensures wanted { (shown : ℕ) → wanted ≡ Some shown → IsUnused (names_in state.now.current space) shown
@@ -57,7 +57,7 @@ pub fn chosen_name(state: &IpcState, space: u32, wanted: Option<u32>) -> u32
     state.free_name(space)
 }
 
-/// The code with which an allocation is refused, if it is.
+/// Returns the code with which an allocation is refused, or `None` if it isn't.
 #[tactic(auto, unfolding(ipc_model::specs::calls::PortCalls::tests_of))]
 pub fn refusal_of_allocate(state: &IpcState, space: u32, right: u32) -> Option<KernReturn>
     ensures { result ≡ first_failing
@@ -69,8 +69,8 @@ pub fn refusal_of_allocate(state: &IpcState, space: u32, right: u32) -> Option<K
     refusal_for_want(state, space, right)
 }
 
-/// The code with which a right is refused for lack of room: the space uses all the names that it may, or no further
-/// port can be made.
+/// Returns the code with which a right is refused for lack of room: the space has the maximum number of names, or no
+/// further port can be made.
 fn refusal_for_want(state: &IpcState, space: u32, right: u32) -> Option<KernReturn>
     ensures { result ≡ first_failing
         ((names_are_used_up (names_in state.now.current space), KernReturn.NoSpace) ∷
@@ -85,8 +85,8 @@ fn refusal_for_want(state: &IpcState, space: u32, right: u32) -> Option<KernRetu
     None
 }
 
-/// `mach_port_allocate_name`: a new right under a name that the task chooses. If an allocation fails, the changes must
-/// be rolled back.
+/// `mach_port_allocate_name`: creates a right under a name that the task chooses. If an allocation fails, the changes
+/// must be rolled back.
 #[tactic(auto, unfolding(ipc_model::specs::calls::PortCalls::tests_of, ipc_model::specs::calls::Actions::Done))]
 pub fn allocate_name(
     state: &mut IpcState,
@@ -107,7 +107,7 @@ pub fn allocate_name(
     Ok(PlainReply::Done { number })
 }
 
-/// The code with which an allocation under a chosen name is refused, if it is.
+/// Returns the code with which an allocation under a chosen name is refused, or `None` if it isn't.
 #[tactic(auto, unfolding(ipc_model::specs::calls::PortCalls::tests_of))]
 fn refusal_of_name(state: &IpcState, space: u32, right: u32, name: u32) -> Option<KernReturn>
     ensures { result ≡ first_failing
@@ -125,7 +125,7 @@ fn refusal_of_name(state: &IpcState, space: u32, right: u32, name: u32) -> Optio
     refusal_for_want(state, space, right)
 }
 
-/// Makes an unused name stand for a new right. If an allocation fails, the changes must be rolled back.
+/// Creates a right under an unused name. If an allocation fails, the changes must be rolled back.
 pub fn add_right(state: &mut IpcState, space: u32, right: u32, name: u32) -> Result<(), AllocError>
     requires there { IsSome (map.get state.old.current.spaces space) }
     requires fresh { map.get state.old.current.ports state.old.current.next ≡ None }

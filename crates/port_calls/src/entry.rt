@@ -5,7 +5,7 @@ ghost use Rattle.ipc_model.specs.calls.PortCalls.{is_allocatable};
 use codes::Right;
 use ipc_model::{Entry, PortRights};
 
-/// Whether a right with this number can be allocated.
+/// Returns true if a right with this number can be allocated.
 pub fn is_allocatable(right: u32) -> bool
     ensures { result ≡ is_allocatable right }
 {
@@ -14,7 +14,7 @@ pub fn is_allocatable(right: u32) -> bool
         || right == Right::DeadName.number()
 }
 
-/// What a new name of a right stands for. A new port has this serial.
+/// Returns the entry of a new name for a right. A new port gets this serial.
 pub fn allocated_entry(serial: u64, right: u32) -> Entry
     ensures { result ≡ allocated_entry serial right }
 {

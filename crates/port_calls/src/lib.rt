@@ -1,4 +1,4 @@
-//! The calls on names and ports: the tests of each in their order, and what each does to the state.
+//! The calls on names and ports: the tests of each call in their order, and its effect on the state.
 #![tactic(auto)]
 
 mod allocation;

@@ -128,7 +128,7 @@ fn mod_receive(
     })
 }
 
-/// Removes a receive right; send references stay with the name.
+/// Removes a receive right. Send references under the name remain.
 fn receive_gone(
     state: &mut IpcState,
     space: u32,
@@ -255,14 +255,14 @@ fn mod_set(
     })
 }
 
-/// Whether references with a negative delta would fall below 0.
+/// Returns true if the references with this negative delta would be below 0.
 fn sum_is_negative(references: u32, delta: u32) -> bool
     ensures { result ≡ sum_is_negative references delta }
 {
     delta >= 1 << 31 && u64::from(references) < falls_by(delta)
 }
 
-/// References with a delta; 0 if they would fall below.
+/// Returns the references with this delta, or 0 if they would be below 0.
 fn sum_of(references: u32, delta: u32) -> u64
     ensures { result ≡ sum_of references delta }
 {
@@ -273,7 +273,7 @@ fn sum_of(references: u32, delta: u32) -> u64
     }
 }
 
-/// How far a negative delta is below 0.
+/// Returns the absolute value of a negative delta.
 fn falls_by(delta: u32) -> u64
     ensures { result ≡ falls_by delta }
 {

@@ -11,7 +11,7 @@ use port_set::received_port;
 use rights::IpcState;
 use std::alloc::AllocError;
 
-/// `mach_port_move_member`: makes a port a member of the set `after`, or of none if that is `MACH_PORT_NULL`. If an
+/// `mach_port_move_member`: moves a port into the set `after`, or out of all sets if `after` is `MACH_PORT_NULL`. If an
 /// allocation fails, the changes must be rolled back.
 #[tactic(auto, unfolding(ipc_model::specs::calls::PortCalls::tests_of, ipc_model::specs::calls::Actions::Done))]
 pub fn move_member(
@@ -45,7 +45,7 @@ pub fn move_member(
     Ok(PlainReply::Done { number })
 }
 
-/// Whether the port whose receive right a name holds is a member of a set.
+/// Returns true if the port whose receive right a name holds is a member of a set.
 fn is_in_some_set(state: &IpcState, entry: Entry) -> bool
     ensures { result ≡ is_in_some_set state.now.current entry }
 {

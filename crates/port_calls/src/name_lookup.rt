@@ -8,7 +8,7 @@ use codes::{MACH_PORT_DEAD, MACH_PORT_NULL};
 use ipc_model::Entry;
 use rights::IpcState;
 
-/// What a name stands for, unless it is `MACH_PORT_NULL` or `MACH_PORT_DEAD`, or isn't in use.
+/// Returns the entry of a name, unless the name is `MACH_PORT_NULL` or `MACH_PORT_DEAD`, or isn't in use.
 pub fn named(state: &IpcState, space: u32, name: u32) -> Option<Entry>
     ensures found { IfSome result (λ entry. (is_no_name (names_in state.now.current space) name ≡ false)
         × (map.get (names_in state.now.current space) name ≡ Some entry)) }
@@ -25,7 +25,7 @@ pub fn named(state: &IpcState, space: u32, name: u32) -> Option<Entry>
     Some(entry)
 }
 
-/// Whether a name is `MACH_PORT_NULL` or `MACH_PORT_DEAD`.
+/// Returns true if a name is `MACH_PORT_NULL` or `MACH_PORT_DEAD`.
 pub fn is_null_or_dead(name: u32) -> bool
     ensures { result ≡ is_null_or_dead name }
 {

@@ -12,8 +12,7 @@ use port_set::received_port;
 use rights::{IpcState, PortNumbers};
 use std::alloc::AllocError;
 
-/// `mach_port_set_qlimit`: sets how many messages the queue of a port holds at most. If an allocation fails, the
-/// changes must be rolled back.
+/// `mach_port_set_qlimit`: sets the limit of a port's queue. If an allocation fails, the changes must be rolled back.
 #[tactic(auto, unfolding(ipc_model::specs::calls::PortCalls::tests_of, ipc_model::specs::calls::Actions::Done))]
 pub fn set_qlimit(
     state: &mut IpcState,
@@ -72,8 +71,8 @@ pub fn set_mscount(
     Ok(PlainReply::Done { number })
 }
 
-/// `mach_port_set_seqno`: sets the sequence number of the next message from a port. If an allocation fails, the changes
-/// must be rolled back.
+/// `mach_port_set_seqno`: sets the sequence number of the port's next message. If an allocation fails, the changes must
+/// be rolled back.
 #[tactic(auto, unfolding(ipc_model::specs::calls::PortCalls::tests_of, ipc_model::specs::calls::Actions::Done))]
 pub fn set_seqno(
     state: &mut IpcState,

@@ -19,7 +19,7 @@ use port_set::received_port;
 use rights::IpcState;
 use std::alloc::{AllocError, Global};
 
-/// `mach_port_type`: the type bits of a name.
+/// `mach_port_type`: returns the type bits of a name.
 #[tactic(auto, unfolding(ipc_model::specs::calls::PortCalls::tests_of, ipc_model::specs::calls::Actions::Done))]
 pub fn port_type(state: &IpcState, space: u32, name: u32) -> PlainReply
     ensures { ActsIn state.now.current space (names_in state.now.current space)
@@ -33,7 +33,7 @@ pub fn port_type(state: &IpcState, space: u32, name: u32) -> PlainReply
     }
 }
 
-/// `mach_port_get_refs`: the user references of a right under a name.
+/// `mach_port_get_refs`: returns the user references of a right under a name.
 #[tactic(auto, unfolding(ipc_model::specs::calls::PortCalls::tests_of, ipc_model::specs::calls::Actions::Done))]
 pub fn get_refs(state: &IpcState, space: u32, name: u32, right: u32) -> PlainReply
     ensures { ActsIn state.now.current space (names_in state.now.current space)
@@ -51,7 +51,7 @@ pub fn get_refs(state: &IpcState, space: u32, name: u32, right: u32) -> PlainRep
     }
 }
 
-/// `mach_port_names`: the names in use, in ascending order, with their type bits.
+/// `mach_port_names`: returns the names in use, in ascending order, with their type bits.
 #[tactic(auto, unfolding(ipc_model::specs::calls::PortCalls::tests_of, ipc_model::specs::calls::Actions::Done))]
 pub fn names(alloc: Global, state: &IpcState, space: u32) -> Result<PlainReply, AllocError>
     ensures { Acts state.now.current space call.Names result state.now.current [] }
@@ -77,7 +77,7 @@ fn named_types(alloc: Global, state: &IpcState, space: u32) -> Result<Vec<NamedT
     Ok(types)
 }
 
-/// `mach_port_get_receive_status`: the numbers of a port, and whether there are rights and requests.
+/// `mach_port_get_receive_status`: returns the numbers of a port, and flags for its rights and requests.
 #[tactic(auto, unfolding(ipc_model::specs::calls::PortCalls::tests_of, ipc_model::specs::calls::Actions::Done))]
 pub fn receive_status(state: &IpcState, space: u32, name: u32) -> PlainReply
     ensures { ActsIn state.now.current space (names_in state.now.current space)
@@ -96,7 +96,7 @@ pub fn receive_status(state: &IpcState, space: u32, name: u32) -> PlainReply
     }
 }
 
-/// The numbers of a live port, and which rights and requests there are.
+/// Returns the numbers of a live port, and flags for its rights and requests.
 fn status_of(state: &IpcState, port: u64) -> Option<ReceiveStatus>
     ensures { result ≡ option_map (status_of state.now.current port) (finmap.get state.now.current.ports port) }
 {
@@ -114,14 +114,14 @@ fn status_of(state: &IpcState, port: u64) -> Option<ReceiveStatus>
     })
 }
 
-/// How many send-once rights a port has; at most `u32::MAX`.
+/// Returns the number of send-once rights to a port, at most `u32::MAX`.
 fn send_once_count(state: &IpcState, port: u64) -> u32
     ensures { result ≡ min (2 ^ 32 - 1) (send_once_count state.now.current port) }
 {
     state.send_once_count(port).min(u64::from(u32::MAX)) as u32
 }
 
-/// `mach_port_get_set_status`: the names of a set's members, in ascending order.
+/// `mach_port_get_set_status`: returns the names of a set's members, in ascending order.
 #[tactic(auto, unfolding(ipc_model::specs::calls::PortCalls::tests_of, ipc_model::specs::calls::Actions::Done))]
 pub fn get_set_status(
     alloc: Global,
@@ -144,7 +144,7 @@ pub fn get_set_status(
     }
 }
 
-/// The user references of a right under a name.
+/// Returns the user references of a right under a name.
 pub fn references_of(right: Right, entry: Entry) -> u32
     ensures { result ≡ references_of (number_of right) entry }
 {

@@ -61,7 +61,7 @@ pub fn deallocate(
     Ok(PlainReply::Done { number })
 }
 
-/// Whether a name is a set, or holds only a receive right.
+/// Returns true if a name is a set or holds only a receive right.
 fn has_no_references(entry: Entry) -> bool
     ensures { result ≡ (is_set entry || (has_receive entry && send_references entry == 0)) }
 {
@@ -72,7 +72,7 @@ fn has_no_references(entry: Entry) -> bool
     }
 }
 
-/// Leaves this many references of a send right under a name; if none are left, the right is released.
+/// Sets the references of a send right under a name. If none are left, the right is released.
 pub fn send_left(
     state: &mut IpcState,
     space: u32,
@@ -101,14 +101,14 @@ pub fn send_left(
     set_left(state, space, name, entry)
 }
 
-/// Adds the release of a right to the effects.
+/// Appends the release of a right to the effects.
 pub fn release(effects: &mut Effects, kind: RightKind, port: u64) -> Result<(), AllocError>
     ensures { OnOk result (effects.new ≡ effects.old ++ release kind port ∷ []) }
 {
     effects.push(Effect::Release { kind, port })
 }
 
-/// Removes the one reference of a send-once right, and its name with it.
+/// Removes the single reference of a send-once right, and its name.
 pub fn send_once_gone(
     state: &mut IpcState,
     space: u32,
@@ -127,7 +127,7 @@ pub fn send_once_gone(
     state.remove_name(space, name)
 }
 
-/// Adds the releases of all that a name stands for, and its port-deleted notice.
+/// Appends the releases of all rights under a name, and its port-deleted notice.
 pub fn release_name(effects: &mut Effects, name: u32, entry: Entry) -> Result<(), AllocError>
     ensures { OnOk result (effects.new ≡ effects.old ++ effects_of_name name entry) }
 {

@@ -14,7 +14,7 @@ use port_set::{member_ports, move_ports};
 use rights::IpcState;
 use std::alloc::{AllocError, Global};
 
-/// `mach_port_destroy`: removes a name with all that it stands for.
+/// `mach_port_destroy`: removes a name with all its rights.
 #[tactic(auto, unfolding(ipc_model::specs::calls::PortCalls::tests_of, ipc_model::specs::calls::Actions::Done))]
 pub fn destroy(
     alloc: Global,
@@ -37,7 +37,7 @@ pub fn destroy(
     Ok(PlainReply::Done { number })
 }
 
-/// A set that is removed leaves its members in none; one that gets another name takes them along.
+/// Moves the members of a set. A removed set leaves its members in none; a renamed one takes them along.
 pub fn move_members(
     alloc: Global,
     state: &mut IpcState,

@@ -14,8 +14,8 @@ use port_set::{member_ports, move_ports};
 use rights::IpcState;
 use std::alloc::{AllocError, Global};
 
-/// `mach_port_rename`: makes what a name stands for stand under another one. The space must exist. If an allocation
-/// fails, the changes must be rolled back.
+/// `mach_port_rename`: moves the entry of a name to another name. The space must exist. If an allocation fails, the
+/// changes must be rolled back.
 #[tactic(auto, unfolding(ipc_model::specs::calls::PortCalls::tests_of, ipc_model::specs::calls::Actions::Done))]
 pub fn rename(
     alloc: Global,
@@ -42,8 +42,8 @@ pub fn rename(
     Ok(PlainReply::Done { number })
 }
 
-/// Makes what stands under one name stand under another; a set takes its members along. If an allocation fails, the
-/// changes must be rolled back.
+/// Moves the entry of a name to another name. A set takes its members along. If an allocation fails, the changes must
+/// be rolled back.
 #[tactic(auto, using(crate::proofs::Moved::names_renamed, crate::proofs::Moved::set_renamed))]
 fn move_entry(
     alloc: Global,

@@ -3,7 +3,7 @@ ghost use Rattle.std.specs.Prelude.{◌≡◌};
 use codes::KernReturn;
 use ipc_model::PlainReply;
 
-/// The reply to a call with this number that is refused.
+/// Returns the refusal of a call with this number.
 pub fn refused(number: u32, code: KernReturn) -> PlainReply
     ensures { result ≡ PlainReply.Refused number code }
 {

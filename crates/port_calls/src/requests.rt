@@ -25,24 +25,24 @@ use port_set::received_port;
 use rights::{IpcState, request_of, take_right};
 use std::alloc::AllocError;
 
-/// What `mach_port_request_notification` asks for.
+/// The arguments of `mach_port_request_notification`.
 #[derive(Clone, Copy)]
 pub struct NoticeRequest {
-    /// The name that the notice is to be about.
+    /// The name that the notice is about.
     pub name: u32,
     /// The id of the notice.
     pub variant: u32,
-    /// How many send rights the task knows to have been made, or whether it wants a notice that is due already.
+    /// The make-send count that the task knows, or, for other notices, a flag: notify at once if it is already due.
     pub sync: u32,
-    /// The name of the right by which the notice is to be sent; `MACH_PORT_NULL` cancels the request.
+    /// The name of the right that receives the notice. `MACH_PORT_NULL` cancels the request.
     pub notify: u32,
-    /// How that right is handed over.
+    /// The disposition of that right.
     pub disposition: u32,
 }
 
-/// `mach_port_request_notification`: requests a notice to a port, or cancels the request if the notice's name is
-/// `MACH_PORT_NULL`. The former target comes back as a send-once right, under the preferred name if that is unused,
-/// else under the least unused one. If the call is refused or an allocation fails, the changes must be rolled back.
+/// `mach_port_request_notification`: requests a notice, or cancels the request if `notify` is `MACH_PORT_NULL`. The
+/// former target is returned as a send-once right, under the preferred name if that is unused, otherwise under the
+/// least unused one. If the call is refused or an allocation fails, the changes must be rolled back.
 #[tactic(auto, unfolding(ipc_model::specs::calls::Actions::Done))]
 pub fn request_notification(
     state: &mut IpcState,
@@ -72,8 +72,8 @@ pub fn request_notification(
     }
 }
 
-/// The target of a request, copied in, or none if the request is to be cancelled; or the code with which the call is
-/// refused.
+/// Copies in the target of a request. Returns no target if the request is to be cancelled, or the code with which the
+/// call is refused.
 #[tactic(auto, unfolding(ipc_model::specs::calls::PortCalls::tests_of))]
 fn take_target(
     state: &mut IpcState,
@@ -121,7 +121,7 @@ fn take_target(
     Ok(Ok(Some(port)))
 }
 
-/// Whether a notice with this number can be requested.
+/// Returns true if a notice with this id can be requested.
 fn is_variant(variant: u32) -> bool
     ensures { result ≡ is_variant variant }
 {
@@ -130,7 +130,7 @@ fn is_variant(variant: u32) -> bool
         || variant == MACH_NOTIFY_DEAD_NAME
 }
 
-/// The disposition of a notice's right: a send-once right is moved or made.
+/// Returns the disposition of a notice's right, which is moved or made as a send-once right.
 fn notify_disposition(disposition: u32) -> Option<Disposition>
     ensures { result ≡ notify_disposition disposition }
 {
@@ -141,7 +141,7 @@ fn notify_disposition(disposition: u32) -> Option<Disposition>
     }
 }
 
-/// The code with which a request under a name is refused, if it is.
+/// Returns the code with which a request about a name is refused, or `None` if it isn't.
 fn refusal_of_request(
     state: &IpcState,
     space: u32,
@@ -166,7 +166,7 @@ fn refusal_of_request(
     None
 }
 
-/// The code with which a request for this notice is refused because of what the name stands for, if it is.
+/// Returns the code with which the name's entry makes a request for this notice fail, or `None` if it doesn't.
 fn refusal_of_variant(
     state: &IpcState,
     space: u32,
@@ -208,7 +208,7 @@ fn refusal_of_variant(
     }
 }
 
-/// The target of the request for this notice that stands under a name.
+/// Returns the target of the request for this notice about a name.
 fn target_under(state: &IpcState, space: u32, name: u32, variant: u32) -> Option<u64>
     ensures { result ≡ target_under state.now.current (names_in state.now.current space) variant name }
 {
@@ -230,7 +230,8 @@ fn target_under(state: &IpcState, space: u32, name: u32, variant: u32) -> Option
     numbers.no_senders_target
 }
 
-/// Gives the request under a name this target, and the former one back to the task. Returns the former one's name.
+/// Sets the target of the request about a name, and returns the former target to the task. Returns the name that the
+/// former target got.
 fn replace_target(
     state: &mut IpcState,
     space: u32,
@@ -259,7 +260,7 @@ fn replace_target(
     Ok(given)
 }
 
-/// Gives the request under a name this target, or answers it at once and doesn't keep it.
+/// Sets the target of the request about a name. If the notice is due, it is sent at once instead.
 fn set_request(
     state: &mut IpcState,
     space: u32,
@@ -289,8 +290,7 @@ fn set_request(
     Ok(())
 }
 
-/// Keeps a dead-name request with the name. For a dead name the notice goes out at once, and the name gets one more
-/// reference.
+/// Sets a name's dead-name request. For a dead name the notice is sent at once, and the name gets one more reference.
 fn set_dead_name_request(
     state: &mut IpcState,
     space: u32,
@@ -329,7 +329,7 @@ fn set_dead_name_request(
     }
 }
 
-/// Keeps a request on a port. If its notice is due, it goes out at once, and the request isn't kept.
+/// Sets a request on a port. If its notice is due, it is sent at once, and the request isn't kept.
 fn set_port_request(
     state: &mut IpcState,
     variant: u32,
@@ -364,7 +364,7 @@ fn set_port_request(
     Ok(())
 }
 
-/// Whether a port has no send right, and at least as many were made as the task knows of.
+/// Returns true if a port has no send right, and at least as many were made as the task knows.
 fn lacks_senders(state: &IpcState, sync: u32, port: u64) -> bool
     ensures { result ≡ lacks_senders state.now.current sync port }
 {
@@ -386,8 +386,8 @@ fn make_send_count(state: &IpcState, port: u64) -> u32
     }
 }
 
-/// The former target of a request comes back as a send-once right: under the preferred name if that is unused, else
-/// under the least unused one. Returns the name, `MACH_PORT_NULL` if there was no target.
+/// Returns the former target of a request to the task as a send-once right: under the preferred name if that is unused,
+/// otherwise under the least unused one. Returns the name, or `MACH_PORT_NULL` if there was no target.
 fn give_back(
     state: &mut IpcState,
     space: u32,

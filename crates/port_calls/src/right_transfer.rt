@@ -22,8 +22,9 @@ use ipc_model::{CarriedRight, Entry, PlainReply, PortInMessage, RightKind};
 use rights::{IpcState, arrival_needed, names_needed, put_right, take_right};
 use std::alloc::AllocError;
 
-/// `mach_port_insert_right`: puts a right that a name hands over under a name that the task chooses. The space must
-/// exist, and no effect may wait. If the call is refused or an allocation fails, the changes must be rolled back.
+/// `mach_port_insert_right`: copies a right in from a name, and puts it under a name that the task chooses. The space
+/// must exist, and no effects may be pending. If the call is refused or an allocation fails, the changes must be rolled
+/// back.
 #[tactic(auto, unfolding(ipc_model::specs::calls::PortCalls::tests_of, ipc_model::specs::calls::Actions::Done))]
 pub fn insert_right(
     state: &mut IpcState,
@@ -60,7 +61,7 @@ pub fn insert_right(
     Ok(PlainReply::Done { number })
 }
 
-/// Takes the right that a name hands over, as copy in does.
+/// Copies in the right from its name.
 #[tactic(auto, using(crate::proofs::Handed::taken_is))]
 fn take_given(
     state: &mut IpcState,
@@ -78,14 +79,14 @@ fn take_given(
     ensures there { IfOk result (λ taken. IfSome taken (λ right. IsSome (map.get state.new.current.spaces space))) }
     ensures before { state.new.before ≡ state.old.before }
 {
-    // Each answer has an exit of its own, at which its clauses are proved.
+    // Each reply has its own exit, at which its contract is proved.
     let Some(right) = take_right(state, space, name, disposition, effects)? else {
         return Ok(None);
     };
     Ok(Some(right))
 }
 
-/// Puts a right that was taken under a name.
+/// Puts a copied-in right under a name.
 fn put_given(
     state: &mut IpcState,
     space: u32,
@@ -103,7 +104,7 @@ fn put_given(
     put_right(state, space, right, name)
 }
 
-/// The code with which a right to a port is refused under a name that the task chose, if it is.
+/// Returns the code with which the chosen name refuses a right to a port, or `None` if it doesn't.
 fn refusal_of_insert(
     state: &IpcState,
     space: u32,
@@ -142,8 +143,8 @@ fn refusal_of_insert(
     None
 }
 
-/// Whether a name can't take a right to a port: it is in use and doesn't hold the port's send or receive right, or the
-/// right is a send-once right.
+/// Returns true if a name can't take a right to a port: it is in use and doesn't hold the port's send or receive right,
+/// or the right is a send-once right.
 fn is_taken_otherwise(kind: RightKind, port: u64, entry: Option<Entry>) -> bool
     ensures { result ≡ is_taken_otherwise kind port entry }
 {
@@ -154,7 +155,7 @@ fn is_taken_otherwise(kind: RightKind, port: u64, entry: Option<Entry>) -> bool
     }
 }
 
-/// Whether one more send right would exceed the greatest number of references.
+/// Returns true if one more send right would exceed the maximum number of references.
 fn passes_bound(kind: RightKind, entry: Option<Entry>) -> bool
     ensures { result ≡ passes_bound kind entry }
 {
@@ -166,9 +167,9 @@ fn passes_bound(kind: RightKind, entry: Option<Entry>) -> bool
     }
 }
 
-/// `mach_port_extract_right`: a right that a name hands over comes out under its port's name, or under a new one, the
-/// preferred one if possible. The space must exist, and no effect may wait. If the call is refused or an allocation
-/// fails, the changes must be rolled back.
+/// `mach_port_extract_right`: copies a right in from a name, and puts it under its port's name or a new one, which is
+/// the preferred one if possible. The space must exist, and no effects may be pending. If the call is refused or an
+/// allocation fails, the changes must be rolled back.
 #[tactic(auto, unfolding(ipc_model::specs::calls::PortCalls::tests_of, ipc_model::specs::calls::Actions::Done))]
 pub fn extract_right(
     state: &mut IpcState,
@@ -201,7 +202,7 @@ pub fn extract_right(
     })
 }
 
-/// Takes the right that is to be extracted, or returns the code with which that is refused.
+/// Copies in the right to be extracted, or returns the code with which that is refused.
 #[tactic(auto, unfolding(ipc_model::specs::calls::PortCalls::tests_of), using(rights::specs::Room::room_to_come))]
 fn take_extracted(
     state: &mut IpcState,

@@ -23,7 +23,7 @@ use port_set::{move_ports, received_ports};
 use rights::{IpcState, arrival_needed, put_right, take_right};
 use std::alloc::{AllocError, Global};
 
-/// Attaches a task to another space, which has to exist.
+/// Attaches a task to another space, which must exist.
 #[tactic(auto, unfolding(ipc_model::specs::calls::PortCalls::tests_of, ipc_model::specs::calls::Actions::Done))]
 pub fn attach(state: &IpcState, space: u32, other: u32) -> PlainReply
     ensures { ActsIn state.now.current space (names_in state.now.current space)
@@ -36,8 +36,8 @@ pub fn attach(state: &IpcState, space: u32, other: u32) -> PlainReply
     PlainReply::Done { number }
 }
 
-/// Makes a space whose one name holds a right that is copied in from a name of the caller's. Its number and its name
-/// are the preferred ones, each if it may be used, else the least that are unused. If the call is refused or an
+/// Creates a space with one name, which holds a right that is copied in from a name of the caller. Space number and
+/// name are the preferred ones, each if it may be used, otherwise the least unused ones. If the call is refused or an
 /// allocation fails, the changes must be rolled back.
 #[tactic(auto, unfolding(ipc_model::specs::calls::Actions::Done))]
 pub fn space_create(
@@ -68,8 +68,8 @@ pub fn space_create(
     }
 }
 
-/// Removes the caller's space with all its names and sets; space 1 stays. If an allocation fails, the changes must be
-/// rolled back.
+/// Removes the caller's space with all its names and sets. Space 1 can't be removed. If an allocation fails, the
+/// changes must be rolled back.
 #[tactic(auto, unfolding(ipc_model::specs::calls::PortCalls::tests_of, ipc_model::specs::calls::Actions::Done))]
 pub fn space_destroy(
     alloc: Global,
@@ -91,8 +91,8 @@ pub fn space_destroy(
     Ok(PlainReply::Done { number })
 }
 
-/// The ports whose receive rights the names of a space hold leave their sets. If an allocation fails, the changes must
-/// be rolled back.
+/// Removes the ports whose receive rights the names of a space hold from their sets. If an allocation fails, the
+/// changes must be rolled back.
 fn leave_sets(alloc: Global, state: &mut IpcState, space: u32) -> Result<(), AllocError>
     ensures left { OnOk result (state.new.current
         ≡ with_ports state.old.current (received_serials (names_in state.old.current space))
@@ -105,7 +105,7 @@ fn leave_sets(alloc: Global, state: &mut IpcState, space: u32) -> Result<(), All
     Ok(())
 }
 
-/// Adds the releases of all that the names of a space stand for, and their port-deleted notices, in ascending order of
+/// Appends the releases of all rights under the names of a space, and their port-deleted notices, in ascending order of
 /// names.
 fn release_names(
     alloc: Global,
@@ -123,7 +123,7 @@ fn release_names(
     Ok(())
 }
 
-/// The right for the one name of a new space, copied in, or the code with which the call is refused.
+/// Copies in the right for the name of a new space, or returns the code with which the call is refused.
 #[tactic(auto, unfolding(ipc_model::specs::calls::PortCalls::tests_of))]
 fn take_for_space(
     state: &mut IpcState,
@@ -164,8 +164,8 @@ fn take_for_space(
     Ok(Ok(right))
 }
 
-/// Makes a space whose one name holds a right, and returns its number and the name: the preferred ones if they may be
-/// used, else the least that are unused.
+/// Creates a space with one name, which holds a right. Returns its number and the name: the preferred ones if they may
+/// be used, otherwise the least unused ones.
 fn add_child(
     alloc: Global,
     state: &mut IpcState,
@@ -190,7 +190,7 @@ fn add_child(
     Ok((number, name))
 }
 
-/// The number of a new space: the preferred one if no space has it, else the least that none has.
+/// Returns the number of a new space: the preferred one if it is unused, otherwise the least unused one.
 fn space_number(state: &IpcState, wanted: Option<u32>) -> u32
     requires room { map.len state.now.current.spaces < MAX_SPACES }
     ensures unused { IsUnusedSpace state.now.current result }

@@ -1,4 +1,4 @@
--- A number that stays where it stands.
+-- A place that keeps its number.
 use Rattle.std.proofs.Common.{◌≡◌, ℕ, true, nat_eq, Option, None, Some, Result, Ok, Err, is_some, refl, sym, ◌∙◌, ap}
 use Rattle.std.proofs.lemmas.Bool.{eqb-true}
 use Rattle.std.specs.Option.{option_eq}
@@ -20,7 +20,7 @@ stayed places place former (Some number) same =
     sym (insert-remove places (key number place) tt) ∙ ap
     (λ (f : Option ℕ). moved places place f (Some number)) (sym same)
 
--- if it stands there already, nothing changes
+-- if the place has the number already, nothing changes
 pub stands : (places : Numbers) (at : ℕ) → is_some (get places at) ≡ true → places ≡ insert places at tt
 stands places at there = go (get places at) refl there
   where
@@ -28,7 +28,7 @@ stands places at there = go (get places at) refl there
     go None is there = absurd (cc there)
     go (Some x) is there = sym (insert-same places at tt is)
 
--- a number that stays is moved to where it stands
+-- replacing a place's number by itself changes nothing
 pub stays : {T E : Type 0} (r : Result T E) (old new : Numbers) (place : ℕ) (former number : Option ℕ)
     → option_eq nat_eq former number ≡ true → OnOk r (new ≡ with_place old number place)
     → OnOk r (new ≡ moved old place former number)

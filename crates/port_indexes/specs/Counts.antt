@@ -12,7 +12,7 @@ use Rattle.ipc_laws.specs.MapSums.{key_is, same_key}
 abbrev pub Counts : Type 0
 Counts = FinMap {K = ℕ} nat_cmp ℕ
 
--- a pair as one number: the pairs with the same first number stand together, ascending
+-- a pair as one number; pairs with the same first number are consecutive and ascend
 abbrev pub key : ℕ → ℕ → ℕ
 key first second = first * 2 ^ 64 + second
 
@@ -24,22 +24,22 @@ or_zero (Some n) = n
 abbrev pub count_at : Counts → ℕ → ℕ → ℕ
 count_at counts first second = or_zero (get counts (key first second))
 
--- the count of a pair set to this
+-- the counts after the count of a pair is set to n
 abbrev pub with_count : Counts → ℕ → ℕ → ℕ → Counts
 with_count counts first second n =
     if n == 0 then remove counts (key first second) else insert counts (key first second) n
 
--- no count there is 0, and none is too great for the sum of two
+-- the counts are positive and below 2 ^ 63, so that a sum of two doesn't overflow
 abbrev pub ArePositive : Counts → Type 0
 ArePositive counts = (k n : ℕ) → get counts k ≡ Some n → (0 < n) × (n < 2 ^ 63)
 
--- the least second number of the pairs with this first one whose count isn't 0
+-- the least second number of the pairs with this first number whose count isn't 0
 abbrev pub IsLeast : Counts → ℕ → Option ℕ → Type 0
 IsLeast counts first found = MatchOption found ((q : ℕ) → q < 2 ^ 64 → count_at counts first q ≡ 0)
     (λ least. (least < 2 ^ 64) × (0 < count_at counts first least)
     × ((q : ℕ) → q < least → count_at counts first q ≡ 0))
 
--- numbers that compare as equal are equal, by the machine's comparison
+-- numbers are equal exactly if they compare as equal
 pub eq_cmp : (x y : ℕ) → eq_by_cmp nat_cmp x y ≡ (x == y)
 eq_cmp x y = go (eq_by_cmp nat_cmp x y) refl (x == y) refl
   where
@@ -50,7 +50,7 @@ eq_cmp x y = go (eq_by_cmp nat_cmp x y) refl (x == y) refl
     go false first true second =
         absurd (cc (sym first ∙ ap (λ (q : ℕ). eq_by_cmp nat_cmp q y) (eqb-true x y second) ∙ same_key y))
 
--- two pairs are one number where their parts are equal
+-- two pairs have the same key exactly if both parts are equal
 pub same_pair : (a b c d : ℕ) → b < 2 ^ 64 → d < 2 ^ 64 → eq_by_cmp nat_cmp (key c d) (key a b) ≡ (c == a && d == b)
 same_pair a b c d small other = eq_cmp (key c d) (key a b) ∙ go (key c d == key a b) refl (c == a) refl (d == b) refl
   where
@@ -67,7 +67,7 @@ same_pair a b c d small other = eq_cmp (key c d) (key a b) ∙ go (key c d == ke
     go false whole false first y second = refl
     go false whole true first false second = refl
 
--- the count of each pair once one is set
+-- the count of each pair after one is set
 pub count_with : (counts : Counts) (a b n c d : ℕ) → b < 2 ^ 64 → d < 2 ^ 64
     → count_at (with_count counts a b n) c d ≡ cond (c == a && d == b) n (count_at counts c d)
 count_with counts a b n c d small other = go (n == 0) refl
@@ -91,7 +91,7 @@ count_with counts a b n c d small other = go (n == 0) refl
         (λ (k : ℕ). cond (c == a && d == b) k (count_at counts c d)) (sym (eqb-true n 0 none))
     go false some = there (insert counts (key a b) n) (Some n) (get-insert nat_cmp_total counts (key a b) n (key c d))
 
--- counts of nothing
+-- a pair without an entry has the count 0
 pub none_counted : (counts : Counts) (a b : ℕ) → get counts (key a b) ≡ None → count_at counts a b ≡ 0
 none_counted counts a b none = ap or_zero none
 

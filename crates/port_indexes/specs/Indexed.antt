@@ -1,4 +1,4 @@
--- An index of places, by what a look at each place gives.
+-- An index of places by the number that a function gives for each.
 use Rattle.std.proofs.Common.{◌≡◌, ℕ, ◌^◌, ◌<◌, ◌==◌, Bool, true, false, cond, ◌&&◌, Option, None, Some, is_some, refl, sym, ◌∙◌, ap, arith}
 use Rattle.std.proofs.lemmas.Bool.{eqb-true, eq-eqb}
 use Rattle.std.specs.Cmp.{nat_cmp_total}
@@ -8,7 +8,7 @@ use Rattle.ipc_model.specs.state.Ipc.{is_number}
 use Rattle.ipc_laws.specs.MapSums.{key_is, same_key}
 use Rattle.port_indexes.specs.Places.{Numbers, key, stands_at, with_place, without_place, moved}
 
--- the index has each place below 2 ^ 64 under the number that the look gives there, and nothing else
+-- the index has each place below 2 ^ 64 under the number that the function gives for it, and nothing else
 abbrev pub IsIndexed : (ℕ → Option ℕ) → Numbers → Type 0
 IsIndexed look places =
     (number place : ℕ) → place < 2 ^ 64 → stands_at places number place ≡ is_number (look place) number
@@ -107,14 +107,14 @@ place_moved look after places place is small changed indexed s n other =
         (key_is n place same) ∙ here (is_number was s) (is_number is s)
     go false same = there (is_number was s) (is_number is s) (is_number (look n) s)
 
--- nothing stands anywhere
+-- no place has a number
 pub nothing_indexed : (look : ℕ → Option ℕ) (places : Numbers) → ((q : ℕ) → look q ≡ None) → places ≡ empty
     → IsIndexed look places
 nothing_indexed look places nothing none number place small =
     ap (λ (p : Numbers). stands_at p number place) none ∙ ap is_some (get-empty nat_cmp (key number place))
     ∙ sym (ap (λ (o : Option ℕ). is_number o number) (nothing place))
 
--- looks that give the same
+-- two functions give the same number for each place
 pub alike_indexed : (look other : ℕ → Option ℕ) (places : Numbers) → ((q : ℕ) → q < 2 ^ 64 → look q ≡ other q)
     → IsIndexed look places → IsIndexed other places
 alike_indexed look other places alike indexed number place small =

@@ -1,4 +1,4 @@
--- Places by a number that stands at each.
+-- Places by the number that each place has.
 use Rattle.std.specs.Prelude.{◌≡◌, ℕ, ◌+◌, ◌*◌, ◌^◌, ◌<◌, ◌≤◌, Bool, true, false, Option, None, Some, MatchOption, is_some, refl}
 use Rattle.std.specs.Coded.{Coded, code_by, coded_ℕ}
 use Rattle.std.specs.Ordering.{nat_cmp}
@@ -11,11 +11,11 @@ Numbers = map.FinMap {K = ℕ} nat_cmp (Unit {0})
 abbrev pub coded_unit : Coded (Unit {0})
 coded_unit = code_by ℕ coded_ℕ (λ _. 0) (λ _. tt) (λ _. refl)
 
--- a place and the number that stands there, as one key: the places of one number stand together, ascending
+-- a number and a place as one key; the places of one number are consecutive and ascend
 abbrev pub key : ℕ → ℕ → ℕ
 key number place = number * 2 ^ 64 + place
 
--- whether the number stands at the place
+-- true if the place has the number
 abbrev pub stands_at : Numbers → ℕ → ℕ → Bool
 stands_at places number place = is_some (map.get places (key number place))
 
@@ -27,11 +27,11 @@ abbrev pub without_place : Numbers → Option ℕ → ℕ → Numbers
 without_place places None place = places
 without_place places (Some number) place = map.remove places (key number place)
 
--- one number, or none, stands at a place in place of another
+-- the index after a place changed its number
 abbrev pub moved : Numbers → ℕ → Option ℕ → Option ℕ → Numbers
 moved places place former number = with_place (without_place places former place) number place
 
--- the first place, from a given one on, at which the number stands
+-- the first place from a given one on that has the number
 abbrev pub IsNext : Numbers → ℕ → ℕ → Option ℕ → Type 0
 IsNext places number from found =
     MatchOption found ((place : ℕ) → from ≤ place → place < 2 ^ 64 → stands_at places number place ≡ false)

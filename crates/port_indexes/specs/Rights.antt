@@ -7,18 +7,18 @@ use Rattle.ipc_model.specs.declared.message.RightKind.TheVariants as kind
 use Rattle.ipc_model.specs.state.Placed.{same_kind}
 use Rattle.port_indexes.specs.Counts.{Counts, count_at, count_with, with_count}
 
--- weighs 1 if it is a right of this kind to this port, and else 0
+-- 1 for a right of this kind to this port, else 0
 abbrev pub right_weight : RightKind → ℕ → Weight
 right_weight wanted serial what port = cond (same_kind what wanted && port == serial) 1 0
 
--- one more, or one less, for a pair
+-- the counts after the count of a pair is incremented, and decremented
 abbrev pub one_more : Counts → ℕ → ℕ → Counts
 one_more counts first second = with_count counts first second (count_at counts first second + 1)
 
 abbrev pub one_fewer : Counts → ℕ → ℕ → Counts
 one_fewer counts first second = with_count counts first second (count_at counts first second - 1)
 
--- one more right, or one less; receive rights aren't counted
+-- the counts after a right is added, and subtracted; receive rights aren't counted
 abbrev pub right_more : Counts → RightKind → ℕ → Counts
 right_more counts kind.Send port = one_more counts 0 port
 right_more counts kind.SendOnce port = one_more counts 1 port
@@ -29,12 +29,12 @@ right_fewer counts kind.Send port = one_fewer counts 0 port
 right_fewer counts kind.SendOnce port = one_fewer counts 1 port
 right_fewer counts kind.Receive port = counts
 
--- the counts are those of rights for which each weight gives this sum
+-- the counts of send and send-once rights are these sums of weights
 pub record AreCounted (weighed : Weight → ℕ) (counts : Counts) : Type 0 where
   pub sends : (serial : ℕ) → serial < 2 ^ 64 → count_at counts 0 serial ≡ weighed (right_weight kind.Send serial)
   pub onces : (serial : ℕ) → serial < 2 ^ 64 → count_at counts 1 serial ≡ weighed (right_weight kind.SendOnce serial)
 
--- the same sums
+-- equal sums have the same counts
 pub counted_same : (f g : Weight → ℕ) (counts : Counts) → ((w : Weight) → f w ≡ g w) → AreCounted f counts
     → AreCounted g counts
 counted_same f g counts same are = record {
@@ -51,7 +51,7 @@ turned a b = go (a == b) refl (b == a) refl
     go true first false second = absurd (cc (sym second ∙ eq-eqb b a (sym (eqb-true a b first))))
     go false first true second = absurd (cc (sym first ∙ eq-eqb a b (sym (eqb-true b a second))))
 
--- the count of each pair once one has one more, or one less
+-- the count of each pair after one is incremented, and decremented
 pub count_more : (counts : Counts) (a b c d : ℕ) → b < 2 ^ 64 → d < 2 ^ 64
     → count_at (one_more counts a b) c d ≡ count_at counts c d + cond (c == a && b == d) 1 0
 count_more counts a b c d small other =
@@ -106,7 +106,7 @@ counted_more f counts kind.Receive port small are = record {
   onces = λ serial other. are.onces serial other ∙ omega arith;
 }
 
--- one less right is counted
+-- one right less is counted
 pub counted_fewer : (f : Weight → ℕ) (counts : Counts) (what : RightKind) (port : ℕ) → port < 2 ^ 64
     → AreCounted (λ w. f w + w what port) counts → AreCounted f (right_fewer counts what port)
 counted_fewer f counts kind.Send port small are = record {

@@ -9,11 +9,11 @@ use std::alloc::{AllocError, Global};
 use std::marker::Model;
 use tracked_map::TrackedMap;
 
-/// The greatest count.
+/// Maximum count.
 const MAX_COUNT: u64 = (1 << 63) - 1;
 
-/// Counts by pairs of numbers, whose changes are committed or rolled back. Contracts see the counts that aren't 0, each
-/// pair as one number, as they were at the last commit or rollback, and as they are.
+/// Counts by pairs of numbers, whose changes are committed or rolled back. Contracts see the counts other than 0, with
+/// each pair as one number, at the last commit or rollback and now.
 #[derive(Drop)]
 pub struct PairCounts {
     counts: TrackedMap<u64>,
@@ -35,7 +35,7 @@ impl Model for PairCounts {
 }
 
 impl PairCounts {
-    /// No counts. It takes no memory.
+    /// Creates counts that are all 0. It allocates nothing.
     pub fn new(alloc: Global) -> Self
         ensures { result ≡ at_rest map.empty }
     {
@@ -44,7 +44,7 @@ impl PairCounts {
         }
     }
 
-    /// The count of a pair.
+    /// Returns the count of a pair.
     pub fn count(&self, first: u64, second: u64) -> u64
         ensures value { result ≡ count_at self.now.current first second }
         ensures few { result < 2 ^ 63 }
@@ -55,11 +55,11 @@ impl PairCounts {
         }
     }
 
-    /// The least second number of the pairs with this first one whose count isn't 0.
+    /// Returns the least second number of the pairs with this first number whose count isn't 0.
     pub fn least(&self, first: u64) -> Option<u64>
         ensures { IsLeast self.now.current first result }
     {
-        // No further than the pairs with this first number: those of others may have left many marks.
+        // The walk ends with the pairs of this first number, because those of others may have left many marks.
         let last = key(first, u64::MAX);
         let Some((found, _)) = self.counts.next_within(key(first, 0), last) else {
             return None;
@@ -67,8 +67,8 @@ impl PairCounts {
         Some((found - key(first, 0)) as u64)
     }
 
-    /// Adds one to the count of a pair. If an allocation fails, as it does for a count of 2^63 - 1, the changes are
-    /// rolled back.
+    /// Increments the count of a pair. If an allocation fails, or the count is 2^63 - 1 already, the changes are rolled
+    /// back.
     pub fn add(&mut self, first: u64, second: u64) -> Result<(), AllocError>
         ensures ok { OnOk result (self.new
             ≡ record self.old {
@@ -85,7 +85,7 @@ impl PairCounts {
         self.set(first, second, count + 1)
     }
 
-    /// Subtracts one from the count of a pair, if it isn't 0. If an allocation fails, the changes are rolled back.
+    /// Decrements the count of a pair, if it isn't 0. If an allocation fails, the changes are rolled back.
     pub fn subtract(&mut self, first: u64, second: u64) -> Result<(), AllocError>
         ensures ok { OnOk result (self.new
             ≡ record self.old {
@@ -106,8 +106,8 @@ impl PairCounts {
         self.set(first, second, 0)
     }
 
-    /// Counts one more right, by its kind and port; receive rights aren't counted. If an allocation fails, the changes
-    /// are rolled back.
+    /// Adds a right of this kind to this port to the counts. Receive rights aren't counted. If an allocation fails, the
+    /// changes are rolled back.
     pub fn add_right(&mut self, kind: RightKind, port: u64) -> Result<(), AllocError>
         ensures ok { OnOk result (self.new ≡ record self.old { current = right_more self.old.current kind port }) }
         ensures err { OnErr result (self.new ≡ at_rest self.old.before) }
@@ -119,7 +119,8 @@ impl PairCounts {
         }
     }
 
-    /// Counts one right less, by its kind and port. If an allocation fails, the changes are rolled back.
+    /// Subtracts a right of this kind to this port from the counts. If an allocation fails, the changes are rolled
+    /// back.
     pub fn subtract_right(&mut self, kind: RightKind, port: u64) -> Result<(), AllocError>
         ensures ok { OnOk result (self.new ≡ record self.old { current = right_fewer self.old.current kind port }) }
         ensures err { OnErr result (self.new ≡ at_rest self.old.before) }
@@ -131,7 +132,7 @@ impl PairCounts {
         }
     }
 
-    /// How many send rights to a port are counted.
+    /// Returns the number of send rights to a port.
     pub fn sends(&self, port: u64) -> u64
         ensures value { result ≡ count_at self.now.current 0 port }
         ensures few { result < 2 ^ 63 }
@@ -139,7 +140,7 @@ impl PairCounts {
         self.count(0, port)
     }
 
-    /// How many send-once rights to a port are counted.
+    /// Returns the number of send-once rights to a port.
     pub fn send_onces(&self, port: u64) -> u64
         ensures value { result ≡ count_at self.now.current 1 port }
         ensures few { result < 2 ^ 63 }
@@ -163,14 +164,14 @@ impl PairCounts {
         }
     }
 
-    /// Commits the changes. It takes no memory.
+    /// Commits the changes. It allocates nothing.
     pub fn commit(&mut self)
         ensures { self.new ≡ at_rest self.old.current }
     {
         self.counts.commit();
     }
 
-    /// Rolls the changes back. It takes no memory.
+    /// Rolls the changes back. It allocates nothing.
     pub fn roll_back(&mut self)
         ensures { self.new ≡ at_rest self.old.before }
     {
@@ -178,7 +179,7 @@ impl PairCounts {
     }
 }
 
-/// A pair as one number.
+/// Returns a pair as one number.
 fn key(first: u64, second: u64) -> u128
     ensures key { result ≡ key first second }
     ensures fits { result < 2 ^ 128 }

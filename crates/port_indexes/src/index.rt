@@ -7,8 +7,8 @@ use std::alloc::{AllocError, Global};
 use std::marker::Model;
 use tracked_map::TrackedMap;
 
-/// Places by a number that stands at each, such as the names that stand for a port, whose changes are committed or
-/// rolled back. Contracts see the set of (number, place), each pair as one number.
+/// An index of places by the number that each place has, such as the port of a name. Changes are committed or rolled
+/// back. Contracts see the set of pairs of number and place, with each pair as one number.
 #[derive(Drop)]
 pub struct PlaceIndex {
     places: TrackedMap<()>,
@@ -26,7 +26,7 @@ impl Model for PlaceIndex {
 }
 
 impl PlaceIndex {
-    /// An empty index. It takes no memory.
+    /// Creates an empty index. It allocates nothing.
     pub fn new(alloc: Global) -> Self
         ensures { result ≡ at_rest map.empty }
     {
@@ -35,8 +35,8 @@ impl PlaceIndex {
         }
     }
 
-    /// Replaces the number, if any, that stands at a place by another one, or by none. If an allocation fails, the
-    /// changes are rolled back.
+    /// Replaces the number of a place, if it had one, by another one or by none. If an allocation fails, the changes
+    /// are rolled back.
     pub fn change(
         &mut self,
         place: u64,
@@ -55,11 +55,11 @@ impl PlaceIndex {
         }
     }
 
-    /// The first place from `from` on at which a number stands.
+    /// Returns the first place from `from` on that has this number.
     pub fn next(&self, number: u64, from: u64) -> Option<u64>
         ensures { IsNext self.now.current number from result }
     {
-        // No further than the places of this number: those of others may have left many marks.
+        // The walk ends with the places of this number, because those of others may have left many marks.
         let last = key(number, u64::MAX);
         let Some((found, _)) = self.places.next_within(key(number, from), last) else {
             return None;
@@ -67,14 +67,14 @@ impl PlaceIndex {
         Some((found - key(number, 0)) as u64)
     }
 
-    /// Commits the changes. It takes no memory.
+    /// Commits the changes. It allocates nothing.
     pub fn commit(&mut self)
         ensures { self.new ≡ at_rest self.old.current }
     {
         self.places.commit();
     }
 
-    /// Rolls the changes back. It takes no memory.
+    /// Rolls the changes back. It allocates nothing.
     pub fn roll_back(&mut self)
         ensures { self.new ≡ at_rest self.old.before }
     {
@@ -82,7 +82,7 @@ impl PlaceIndex {
     }
 }
 
-/// The number of a place by what stands there.
+/// Returns a number and a place as one key.
 fn key(number: u64, place: u64) -> u128
     ensures key { result ≡ key number place }
     ensures fits { result < 2 ^ 128 }
@@ -106,7 +106,7 @@ fn replace(
     join(places, number, place)
 }
 
-/// Makes sure that the number, if there is one, stands at the place.
+/// Keeps a place in the index under its number, if it has one.
 fn stay(places: &mut TrackedMap<()>, number: Option<u64>, place: u64) -> Result<(), AllocError>
     ensures ok { OnOk result (places.new.current ≡ with_place places.old.current number place) }
     ensures before { places.new.before ≡ places.old.before }

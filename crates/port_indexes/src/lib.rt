@@ -1,5 +1,5 @@
-//! What is found and counted of ports: places by a number that stands at each, and counts by pairs of numbers. Changes
-//! are committed or rolled back.
+//! Indexes of places by a number that each place has, and counts by pairs of numbers. Changes are committed or rolled
+//! back.
 #![tactic(auto)]
 
 mod counts;

@@ -7,7 +7,7 @@ use ipc_model::Entry;
 use ipc_state::IpcState;
 use std::alloc::{AllocError, Global};
 
-/// The names of a set's members in a space, in ascending order (`mach_port_get_set_status`).
+/// Returns the names of a set's members in a space, in ascending order (`mach_port_get_set_status`).
 #[tactic(auto, using(ipc_state::specs::SetNames::member_names))]
 pub fn members(
     alloc: Global,
@@ -26,7 +26,7 @@ pub fn members(
     Ok(members)
 }
 
-/// The ports that are a set's members in a space, in the order of their names.
+/// Returns the ports of a set's members in a space, in the order of their names.
 #[tactic(auto, using(ipc_state::specs::SetNames::member_serials))]
 pub fn member_ports(
     alloc: Global,
@@ -45,7 +45,7 @@ pub fn member_ports(
     Ok(ports)
 }
 
-/// The ports whose receive rights the names of a space hold, in the order of their names.
+/// Returns the ports whose receive rights the names of a space hold, in the order of their names.
 pub fn received_ports(alloc: Global, state: &IpcState, space: u32) -> Result<Vec<u64>, AllocError>
     ensures { IfOk result (λ ports. ports.items ≡ received_serials (names_in state.now.current space)) }
 {
@@ -59,7 +59,7 @@ pub fn received_ports(alloc: Global, state: &IpcState, space: u32) -> Result<Vec
     Ok(ports)
 }
 
-/// The port whose receive right a name holds.
+/// Returns the port whose receive right a name holds.
 pub fn received_port(entry: Entry) -> Option<u64>
     ensures { result ≡ received_port entry }
 {

@@ -8,7 +8,7 @@ use ipc_model::Entry;
 use ipc_state::{IpcState, PortNumbers};
 use std::alloc::AllocError;
 
-/// Makes the port whose receive right a name holds a member of the set of a name, or of none if the name is
+/// Moves the port whose receive right a name holds into the set with this name, or out of all sets if the name is
 /// `MACH_PORT_NULL` (`mach_port_move_member`). If an allocation fails, the changes must be rolled back.
 pub fn move_member(state: &mut IpcState, member: Entry, after: u32) -> Result<(), AllocError>
     ensures ok { OnOk result (state.new.current ≡ with_received state.old.current member
@@ -26,7 +26,7 @@ pub fn move_member(state: &mut IpcState, member: Entry, after: u32) -> Result<()
     move_port(state, port, set)
 }
 
-/// Makes a port a member of this set, or of none.
+/// Moves a port into this set, or out of all sets.
 fn move_port(state: &mut IpcState, port: u64, set: Option<u32>) -> Result<(), AllocError>
     ensures ok { OnOk result (state.new.current ≡ with_port state.old.current port
         (λ port. record port { set = set })) }
@@ -38,8 +38,8 @@ fn move_port(state: &mut IpcState, port: u64, set: Option<u32>) -> Result<(), Al
     state.set_numbers(port, PortNumbers { set, ..numbers })
 }
 
-/// Makes ports members of this set, or of none: a set that goes leaves its members in none, and one that is renamed
-/// takes them along. If an allocation fails, the changes must be rolled back.
+/// Moves ports into this set, or out of all sets. A removed set leaves its members in none; a renamed one takes them
+/// along. If an allocation fails, the changes must be rolled back.
 pub fn move_ports(state: &mut IpcState, ports: &[u64], set: Option<u32>) -> Result<(), AllocError>
     ensures ok { OnOk result (state.new.current ≡ with_ports state.old.current ports.now
         (λ port. record port { set = set })) }

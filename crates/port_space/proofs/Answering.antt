@@ -1,4 +1,4 @@
--- What a space answers from what it keeps alongside its names.
+-- A space's answers, from its indexes.
 use Rattle.std.proofs.Common.{◌≡◌, ℕ, ◌+◌, ◌-◌, ◌^◌, ◌<◌, ◌≤◌, ◌==◌, Bool, true, false, not, ◌&&◌, nat_lt, Option, None, Some, MatchOption, MatchBool, IsSome, is_some, option_and_then, option_map, refl, sym, ◌∙◌, ap, subst, arith}
 use Rattle.std.proofs.lemmas.Bool.{ltb-false, ltb-true, eqb-true, eq-eqb}
 use Rattle.std.specs.FinMap.{get, len}
@@ -18,7 +18,7 @@ not_less a b never = elim (nat_lt a b) as (λ (t : Bool). nat_lt a b ≡ t → b
   | false ↦ λ (more : _). ltb-false a b more
 ] refl
 
--- a name that holds a port is in use
+-- a name that holds a right of a port is in use
 held : (names : Names) (serial name : ℕ) → holds names serial name ≡ true → (entry : Entry)
     × (get names name ≡ Some entry) × (is_number (port_held entry) serial ≡ true)
 held names serial name is = go (get names name) refl is
@@ -36,7 +36,7 @@ not_held names serial name entry found is =
 small_name : (names : Names) (name : ℕ) (entry : Entry) → AreSmall names → get names name ≡ Some entry → name < 2 ^ 32
 small_name names name entry small found = small name (ap is_some found)
 
--- no name of more than 32 bits holds anything
+-- no name above 32 bits holds a right
 beyond : (names : Names) (serial name : ℕ) → AreSmall names → 2 ^ 32 ≤ name → holds names serial name ≡ false
 beyond names serial name small past = go (get names name) refl
   where
@@ -44,7 +44,7 @@ beyond names serial name small past = go (get names name) refl
     go None found = refl
     go (Some entry) found = absurd (omega (arith, past, small_name names name entry small found))
 
--- what the search for the next name of a port answers
+-- the result of searching the next name of a port
 abbrev pub NextName : Names → ℕ → ℕ → Option ℕ → Type 0
 NextName names serial from found =
     MatchOption found ((name : ℕ) → from ≤ name → name < 2 ^ 32 → holds names serial name ≡ false)
@@ -62,7 +62,7 @@ name_is names serial (Some f) small next =
     sym (first_entry (λ e. is_number (port_held e.1) serial) names f there.0 there.1 there.2
     (λ q w less is. not_held names serial q w is (next.2 q (omega arith) less)))
 
--- whether a greater name holds the port
+-- the result of asking if a greater name holds a right of the port
 abbrev pub StandsAbove : Names → ℕ → ℕ → Bool → Type 0
 StandsAbove names serial name b =
     MatchBool b ((other : ℕ) × (name < other) × (holds names serial other ≡ true))
@@ -123,7 +123,7 @@ elsewhere_false names serial name none =
     go q w is false apart =
         and_false _ _ (not_held names serial q w is (none q (λ same. cc (sym (eq-eqb q name same) ∙ apart))))
 
--- if the first name that holds the port is the given one, the port stands elsewhere exactly if a greater name holds it
+-- if this name is the first that holds a right of the port, another one does exactly if a greater one does
 pub elsewhere_above : (names : Names) (serial name : ℕ) (b : Bool) → NextName names serial 0 (Some name)
     → StandsAbove names serial name b → b ≡ stands_elsewhere names name serial
 elsewhere_above names serial name true first above =
@@ -136,7 +136,7 @@ elsewhere_above names serial name false first above =
       | false ↦ λ (more : _). above other (omega (arith, ltb-false other name more, apart))
     ] refl))
 
--- or it is another, or there is none
+-- if another name is the first, another one does; if there is none, no name does
 pub elsewhere_first : (names : Names) (serial name : ℕ) (found : Option ℕ) → AreSmall names
     → NextName names serial 0 found → (found ≡ Some name → ⊥) → is_some found ≡ stands_elsewhere names name serial
 elsewhere_first names serial name None small next apart =
@@ -149,7 +149,7 @@ elsewhere_first names serial name None small next apart =
 elsewhere_first names serial name (Some f) small next apart =
     sym (elsewhere_true names serial name f (λ same. apart (ap Some same)) next.1)
 
--- The least name that may be handed out and isn't in use.
+-- The least unused name that may be given to a right.
 pub record IsFreeName (names : Names) (name : ℕ) : Type 0 where
   pub fits : name < 2 ^ 32
   pub unused : IsUnused names name
@@ -175,7 +175,7 @@ no_number : (o : Option (Unit {0})) → o ≡ None → is_some o ≡ false
 no_number None e = refl
 no_number (Some x) e = absurd (cc e)
 
--- the least gap
+-- it is the least gap
 pub gap_is_free : (names : Names) (by_port gaps : Numbers) (low gap : ℕ) → StandAlongside names by_port gaps low
     → get gaps gap ≡ Some tt → ((k : ℕ) → 0 ≤ k → k < gap → get gaps k ≡ None) → IsFreeName names gap
 gap_is_free names by_port gaps low gap alongside there least =
@@ -186,14 +186,14 @@ gap_is_free names by_port gaps low gap alongside there least =
     (λ k le lt. alongside.free.below k le (omega (arith, lt, within.1))
     ∙ ap not (no_number (get gaps k) (least k (omega arith) lt)))
 
--- the first name past the dense ones, if there is no gap
+-- it is `low` if there is no gap
 pub low_is_free : (names : Names) (by_port gaps : Numbers) (low : ℕ) → StandAlongside names by_port gaps low
     → ((k : ℕ) → 0 ≤ k → k < 2 ^ 128 → get gaps k ≡ None) → IsFreeName names low
 low_is_free names by_port gaps low alongside none =
     free_where names low alongside.bounded.few alongside.free.from alongside.free.next
     (λ k le lt. alongside.free.below k le lt ∙ ap not (no_gap k))
   where
-    -- the dense names are few
+    -- there are at most MAX_NAMES names below `low`
     dense : (n : ℕ) → n ≤ low - FIRST_NAME → n < 2 ^ 32 → n ≤ MAX_NAMES
     dense n le small = omega (
       arith,

@@ -1,4 +1,4 @@
--- The names by their ports, as names come, change and go.
+-- The index by port, as names are added, changed and removed.
 use Rattle.std.proofs.Common.{◌≡◌, ℕ, ◌^◌, ◌<◌, ◌==◌, Bool, true, false, cond, ◌&&◌, Option, None, Some, is_some, refl, sym, ◌∙◌, ap, arith}
 use Rattle.std.proofs.lemmas.Bool.{eqb-true, eq-eqb}
 use Rattle.std.specs.Cmp.{nat_cmp_total}
@@ -70,7 +70,7 @@ has_without numbers (Some t) name s n small other =
     cond_none true o = refl
     cond_none false o = refl
 
--- one name changed, and where it stands among the names by port
+-- one entry changed, and with it the place of the name in the index
 pub by_port_changed : (names after : Names) (numbers : Numbers) (name : ℕ) (o : Option Entry) → name < 2 ^ 32
     → ((q : ℕ) → get after q ≡ cond (eq_by_cmp nat_cmp q name) o (get names q)) → AreByPort names numbers
     → AreByPort after (with_port (without_port numbers (option_and_then port_held (get names name)) name)

@@ -1,4 +1,4 @@
--- The unused names of a space, as names come and go.
+-- The unused names of a space, as names are added and removed.
 use Rattle.std.proofs.Common.{◌≡◌, inl, inr, ℕ, ◌≤◌, ◌<◌, Bool, true, false, not, cond, nat_lt, Option, None, Some, is_some, refl, sym, ◌∙◌, ap, arith}
 use Rattle.std.proofs.lemmas.Bool.{cases_eq, ltb-false, ltb-true}
 use Rattle.std.specs.Ordering.{nat_cmp, eq_by_cmp}
@@ -86,7 +86,7 @@ free_put names after gaps fewer low next name entry changed less free goes = rec
               beyond q more short ∙ ap not (sym (less q ∙ gone q (eq_by_cmp nat_cmp q name) (no_gap q more)))
         ] refl
 
--- a name in use is no gap, nor the least unused one
+-- A name in use is neither a gap nor `low`.
 module _ (names : Names) (gaps : Numbers) (low name : ℕ) (former entry : Entry) (free : AreFree names gaps low)
     (used : get names name ≡ Some former) where
   no_gap_of : has gaps name ≡ false
@@ -114,7 +114,7 @@ still_unused : (names : Names) (low : ℕ) (b : Bool) → get names low ≡ None
 still_unused names low true none = refl
 still_unused names low false none = none
 
--- a name that goes is a gap, if it is below `low`
+-- a removed name becomes a gap if it is below `low`
 pub free_removed : (names after : Names) (gaps more : Numbers) (low name : ℕ)
     → ((q : ℕ) → get after q ≡ cond (eq_by_cmp nat_cmp q name) None (get names q))
     → ((q : ℕ) → has more q ≡ cond (eq_by_cmp nat_cmp q name) true (has gaps q)) → FIRST_NAME ≤ name → name < low
@@ -138,7 +138,7 @@ free_removed names after gaps more low name changed grown le short free = record
     inside q true same there = let is = key_is q name same in (omega (arith, is, le), omega (arith, is, short))
     inside q false same there = free.within q there
 
--- a name that isn't below leaves the gaps as they are
+-- a removed name that isn't below `low` leaves the gaps unchanged
 pub free_without : (names after : Names) (gaps : Numbers) (low name : ℕ)
     → ((q : ℕ) → get after q ≡ cond (eq_by_cmp nat_cmp q name) None (get names q))
     → ((FIRST_NAME ≤ name) → (name < low) → ⊥) → AreFree names gaps low → AreFree after gaps low

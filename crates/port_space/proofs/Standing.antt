@@ -1,4 +1,4 @@
--- What a space keeps alongside its names stays right as names come, change and go.
+-- Each change of a space's names keeps the invariant of the indexes.
 use Rattle.std.proofs.Common.{◌≡◌, ℕ, ◌^◌, ◌<◌, Bool, true, false, cond, Option, None, Some, is_some, option_and_then, refl, sym, ◌∙◌, ap, subst, arith, inl, inr}
 use Rattle.std.specs.Cmp.{nat_cmp_total}
 use Rattle.std.specs.Ordering.{nat_cmp, eq_by_cmp}
@@ -88,7 +88,7 @@ removed_stands old new name fits alongside gone = record {
     changed : (q : ℕ) → get new.names.current q ≡ cond (eq_by_cmp nat_cmp q name) None (get old.names.current q)
     changed q = ap (λ (n : Names). get n q) gone.names ∙ get-remove nat_cmp_total old.names.current name q
 
--- a name in use stands for something else
+-- the entry of a name in use is replaced
 pub put_used : (old new : Tables) (name : ℕ) (entry : Entry) (former : Option Entry)
     → AreFree old.names.current old.gaps.current old.low → former ≡ get old.names.current name → is_some former ≡ true
     → new.names.current ≡ insert old.names.current name entry
@@ -130,7 +130,7 @@ nothing_stands = record {
     is_held : Option Entry → ℕ → Bool
     is_held o serial = is_number (option_and_then port_held o) serial
 
--- what the space keeps alongside its names, when the changes began and now
+-- the invariant of the indexes at the last commit or rollback, and now
 pub record Stand (t : Tables) : Type 0 where
   pub before : StandAlongside t.names.before t.by_port.before t.gaps.before t.low_before
   pub current : StandAlongside t.names.current t.by_port.current t.gaps.current t.low

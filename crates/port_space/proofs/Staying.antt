@@ -1,4 +1,4 @@
--- A name that still holds a right of the same port.
+-- A name that keeps a right of the same port.
 use Rattle.std.proofs.Common.{◌≡◌, ℕ, true, nat_eq, Option, None, Some, Result, Ok, Err, is_some, refl, sym, ◌∙◌, ap}
 use Rattle.std.proofs.lemmas.Bool.{eqb-true}
 use Rattle.std.specs.FinMap.{get, insert}
@@ -20,7 +20,7 @@ stayed numbers name former (Some port) same =
     sym (insert-remove numbers (port_key port name) tt) ∙ ap
     (λ (f : Option ℕ). with_port (without_port numbers f name) (Some port) name) (sym same)
 
--- something is put where it is already
+-- inserting a present key changes nothing
 pub stands : (numbers : Numbers) (at : ℕ) → is_some (get numbers at) ≡ true → numbers ≡ insert numbers at tt
 stands numbers at there = go (get numbers at) refl there
   where

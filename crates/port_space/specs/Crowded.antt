@@ -1,4 +1,4 @@
--- How many keys a finite map has.
+-- The number of keys in a finite map.
 use Rattle.std.proofs.Common.{◌≡◌, ℕ, zero, suc, ◌+◌, ◌-◌, ◌<◌, ◌≤◌, Bool, true, false, cond, Option, None, Some, IsSome, is_some, refl, sym, ◌∙◌, ap, subst, inl, inr, arith}
 use Rattle.std.proofs.lemmas.Bool.{cases_eq}
 use Rattle.std.specs.Cmp.{nat_cmp_total, nat_cmp_is}
@@ -18,7 +18,7 @@ module _ {X : Type 0} where
   has_value None h = absurd (cc h)
   has_value (Some x) h = refl
 
-  -- one more key where there is room for it
+  -- an insertion keeps the bound if there is room for a new key
   pub within_after_insert : (m : Map X) (k : ℕ) (v : X) (most : ℕ) → len m ≤ most → (get m k ≡ None → len m < most)
       → len (insert m k v) ≤ most
   within_after_insert m k v most le room =

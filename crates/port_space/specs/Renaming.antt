@@ -1,9 +1,9 @@
--- One entry of a space under another name.
+-- An entry of a space that moves to another name.
 use Rattle.std.specs.Prelude.{ℕ, None, Some}
 use Rattle.std.specs.FinMap as map
 use Rattle.ipc_model.specs.state.Ipc.{Names}
 
--- the names once what stands under one name, if anything, stands under another
+-- the names after the entry of one name, if there is one, moved to another name
 abbrev pub under_other_name : Names → ℕ → ℕ → Names
 under_other_name names from to =
     elim (map.get names from) as (λ _. Names)

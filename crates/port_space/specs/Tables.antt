@@ -1,4 +1,4 @@
--- The state of a space's tables after changes.
+-- A space's tables after changes.
 use Rattle.std.specs.Prelude.{◌≡◌, ℕ, ◌^◌, ◌<◌, ◌≤◌, ◌⊎◌, true, is_some, option_and_then}
 use Rattle.std.specs.FinMap as map
 use Rattle.codes.specs.declared.name.TheConstants.{FIRST_NAME}
@@ -8,11 +8,11 @@ use Rattle.port_space.specs.Alongside.{with_port, without_port, GoesOn}
 use Rattle.tracked_map.specs.Tracked.{at_rest}
 use Rattle.port_space.specs.declared.tables.Tables.{Tables}
 
--- names are words
+-- every name fits 32 bits
 abbrev pub AreSmall : Names → Type 0
 AreSmall names = (name : ℕ) → is_some (map.get names name) ≡ true → name < 2 ^ 32
 
--- what the changes began with stays
+-- the tables at the last commit or rollback are the same
 pub record SameBefore (old new : Tables) : Type 0 where
   pub names : new.names.before ≡ old.names.before
   pub by_port : new.by_port.before ≡ old.by_port.before
@@ -27,7 +27,7 @@ pub record IsPut (old new : Tables) (name : ℕ) (entry : Entry) : Type 0 where
   pub gaps : new.gaps.current ≡ map.remove old.gaps.current name
   pub low : GoesOn new.names.current name old.low new.low
 
--- a name that goes is a gap, if it is below `low`
+-- a removed name becomes a gap if it is below `low`
 abbrev pub LeavesGap : Tables → Tables → ℕ → Type 0
 LeavesGap old new name =
     ((FIRST_NAME ≤ name) × (name < old.low) × (new.gaps.current ≡ map.insert old.gaps.current name tt))
@@ -40,7 +40,7 @@ pub record IsRemoved (old new : Tables) (name : ℕ) : Type 0 where
   pub gaps : LeavesGap old new name
   pub low : new.low ≡ old.low
 
--- the tables of no names
+-- the tables of an empty space
 pub record AreNew (new : Tables) : Type 0 where
   pub names : new.names ≡ at_rest map.empty
   pub by_port : new.by_port ≡ at_rest map.empty

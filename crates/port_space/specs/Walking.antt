@@ -1,4 +1,4 @@
--- A walk over a map, entry by entry: each step takes the least key from a given one on.
+-- Walks over a map. Each step takes the entry with the least key from a given key on.
 use Rattle.std.proofs.Common.{◌≡◌, ℕ, ◌+◌, ◌<◌, ◌≤◌, Bool, true, false, cond, nat_lt, T, List, [], ◌∷◌, ◌++◌, Option, None, Some, MatchOption, append_assoc, refl, sym, ◌∙◌, ap, subst, arith}
 use Rattle.std.proofs.lemmas.Bool.{lt-ltb, le-ltb, ltb-false}
 use Rattle.std.specs.Prelude.{flat_map}
@@ -10,12 +10,12 @@ use Rattle.ipc_laws.specs.ListLaws.{some_same}
 use Rattle.ipc_laws.specs.MapSums.{key_is}
 use Rattle.port_space.specs.Finding.{front_of, back_of, above, here_found, there_found}
 
--- the entry with the least key from a given one on
+-- the entry with the least key from a given key on
 abbrev pub IsNextEntry : {X : Type 0} → FinMap {K = ℕ} nat_cmp X → ℕ → Option (ℕ × X) → Type 0
 IsNextEntry m from found = MatchOption found ((key : ℕ) → from ≤ key → get m key ≡ None)
     (λ e. (from ≤ e.0) × (get m e.0 ≡ Some e.1) × ((key : ℕ) → from ≤ key → key < e.0 → get m key ≡ None))
 
--- a list if its number isn't below a given one, else nothing
+-- a list if its number is at least `at`, else the empty list
 abbrev pub from_on : {A : Type 0} → ℕ → ℕ → List A → List A
 from_on at number xs = cond (nat_lt number at) [] xs
 
@@ -34,7 +34,7 @@ module _ {A : Type 0} where
       ] refl
 
 module _ {X A : Type 0} where
-  -- functions that agree on each entry
+  -- functions that agree on each entry give the same list
   alike_in : (f g : ℕ × X → List A) (es : List (ℕ × X)) → T (is_sorted nat_cmp es)
       → ((q : ℕ) (w : X) → map.find nat_cmp q es ≡ Some w → f (q, w) ≡ g (q, w)) → flat_map f es ≡ flat_map g es
   alike_in f g [] sorted same = refl
@@ -83,7 +83,7 @@ module _ {X A : Type 0} where
             ∙ ap (λ (xs : List A). gained ++ (xs ++ flat_map g es)) (sym none.1)
       ] refl found
 
-  -- what the entries give, if two functions agree on each, give nothing, or differ by what one entry gives
+  -- the lists that entries give under two functions, which agree on each entry, or are empty, or differ in one entry
   pub entries_alike : (f g : ℕ × X → List A) (m : FinMap {K = ℕ} nat_cmp X)
       → ((q : ℕ) (w : X) → get m q ≡ Some w → f (q, w) ≡ g (q, w)) → flat_map f (entries m) ≡ flat_map g (entries m)
   entries_alike f g m same = alike_in f g (entries m) (entries_sorted m) (λ q w is. same q w (get-entries m q ∙ is))

@@ -1,5 +1,5 @@
-//! The names of one port name space, found by their ports too, with its least unused name. What a call changes of them
-//! is committed or rolled back.
+//! The names of one port name space, with an index by port and the least unused name. Changes are committed or rolled
+//! back.
 #![tactic(auto)]
 
 mod space;

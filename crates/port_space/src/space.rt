@@ -13,9 +13,8 @@ use ipc_model::Entry;
 use std::alloc::{AllocError, Global};
 use std::marker::Model;
 
-/// A port name space (`ipc_space`): at most `MAX_NAMES` names, each with what it stands for, whose changes are
-/// committed or rolled back. Contracts see the finite map from names to entries as it was at the last commit or
-/// rollback, and as it is.
+/// A port name space (`ipc_space`): at most `MAX_NAMES` names, each with its entry. Changes are committed or rolled
+/// back. Contracts see two finite maps from names to entries: at the last commit or rollback, and the current one.
 #[derive(Drop)]
 pub struct PortSpace {
     tables: Tables,
@@ -39,7 +38,7 @@ impl Model for PortSpace {
 }
 
 impl PortSpace {
-    /// A space without names. It takes no memory.
+    /// Creates a space without names. It allocates nothing.
     pub fn new(alloc: Global) -> Self
         ensures { result ≡ at_rest map.empty }
     {
@@ -48,21 +47,21 @@ impl PortSpace {
         }
     }
 
-    /// How many names are in use.
+    /// Returns the number of names in use.
     pub fn len(&self) -> usize
         ensures { result ≡ map.len self.now.current }
     {
         self.tables.names.len()
     }
 
-    /// Whether a name is in use.
+    /// Returns true if a name is in use.
     pub fn contains(&self, name: u32) -> bool
         ensures { result ≡ is_some (map.get self.now.current name) }
     {
         self.tables.names.contains_key(u128::from(name))
     }
 
-    /// What a name stands for, if it is in use.
+    /// Returns the entry of a name, if it is in use.
     pub fn get(&self, name: u32) -> Option<Entry>
         ensures value { result ≡ map.get self.now.current name }
         ensures few { IfSome result AreFewReferences }
@@ -70,7 +69,7 @@ impl PortSpace {
         self.tables.names.get(u128::from(name)).copied()
     }
 
-    /// Makes a name stand for this, and returns what it stood for. If an allocation fails, the changes are rolled back.
+    /// Replaces the entry of a name, and returns the former one. If an allocation fails, the changes are rolled back.
     pub fn put(&mut self, name: u32, entry: Entry) -> Result<Option<Entry>, AllocError>
         requires room { map.get self.old.current name ≡ None → map.len self.old.current < MAX_NAMES }
         requires few { AreFewReferences entry }
@@ -87,7 +86,7 @@ impl PortSpace {
         }
     }
 
-    /// Takes a name out of use, and returns what it stood for. If an allocation fails, the changes are rolled back.
+    /// Removes a name, and returns its entry. If an allocation fails, the changes are rolled back.
     pub fn remove(&mut self, name: u32) -> Result<Option<Entry>, AllocError>
         ensures former { IfOk result (λ former. former ≡ map.get self.old.current name) }
         ensures few { IfOk result (λ former. IfSome former AreFewReferences) }
@@ -103,14 +102,14 @@ impl PortSpace {
         }
     }
 
-    /// The name under which the space holds a send or receive right of a port, the least if there were several.
+    /// Returns the name that holds a send or receive right of a port. If there were several, it would be the least one.
     pub fn name_of_port(&self, port: u64) -> Option<u32>
         ensures { result ≡ name_of_port self.now.current port }
     {
         self.tables.next_name(port, 0)
     }
 
-    /// Whether a send or receive right of a port stands under a name other than this one.
+    /// Returns true if another name than this one holds a send or receive right of a port.
     pub fn stands_elsewhere(&self, name: u32, port: u64) -> bool
         ensures { result ≡ stands_elsewhere self.now.current name port }
     {
@@ -120,7 +119,7 @@ impl PortSpace {
         first != name || self.stands_above(name, port)
     }
 
-    /// Whether a send or receive right of a port stands under a greater name.
+    /// Returns true if a greater name than this one holds a send or receive right of a port.
     fn stands_above(&self, name: u32, port: u64) -> bool
         ensures { MatchBool result ((other : ℕ) × (name < other) × (holds self.now.current port other ≡ true))
             ((other : ℕ) → name < other → holds self.now.current port other ≡ false) }
@@ -131,14 +130,15 @@ impl PortSpace {
         }
     }
 
-    /// Whether a name may be given out: it is neither `MACH_PORT_NULL` nor `MACH_PORT_DEAD`, and isn't in use.
+    /// Returns true if a name may be given to a right: it is neither `MACH_PORT_NULL` nor `MACH_PORT_DEAD`, and isn't
+    /// in use.
     pub fn is_unused(&self, name: u32) -> bool
         ensures { IsTrue result ↔ IsUnused self.now.current name }
     {
         name != MACH_PORT_NULL && name != MACH_PORT_DEAD && !self.contains(name)
     }
 
-    /// The least name from `FIRST_NAME` on that isn't in use. There always is one.
+    /// Returns the least unused name from `FIRST_NAME` on. There is always one.
     pub fn free_name(&self) -> u32
         ensures unused { IsUnused self.now.current result }
         ensures from { FIRST_NAME ≤ result }
@@ -150,14 +150,14 @@ impl PortSpace {
         }
     }
 
-    /// Shows that there are at most `MAX_NAMES` names. It does nothing else.
+    /// Proves that there are at most `MAX_NAMES` names. It does nothing else.
     pub fn show_names_few(&self)
         ensures { map.len self.now.current ≤ MAX_NAMES }
     {
         let _ = &self.tables;
     }
 
-    /// The least name from `from` on, with what it stands for.
+    /// Returns the least name from `from` on, with its entry.
     pub fn next_entry(&self, from: u64) -> Option<(u32, Entry)>
         ensures next { IsNextEntry self.now.current from result }
         ensures fits { IfSome result (λ e. e.0 < 2 ^ 32) }
@@ -168,14 +168,14 @@ impl PortSpace {
         Some((name as u32, *entry))
     }
 
-    /// Commits the changes. It takes no memory.
+    /// Commits the changes. It allocates nothing.
     pub fn commit(&mut self)
         ensures { self.new ≡ at_rest self.old.current }
     {
         self.tables.commit();
     }
 
-    /// Rolls the changes back. It takes no memory.
+    /// Rolls the changes back. It allocates nothing.
     pub fn roll_back(&mut self)
         ensures { self.new ≡ at_rest self.old.before }
     {

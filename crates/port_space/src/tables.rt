@@ -1,4 +1,4 @@
-//! The names of a space as plain tables, with the indexes that go with them.
+//! The names of a space as plain tables, with their indexes.
 ghost use Rattle.std.specs.Prelude.{◌≡◌, ◌≤◌, ◌<◌, ◌^◌, ℕ, true, false, None, Some, IfOk, OnOk, MatchOption, is_some, option_and_then};
 ghost use Rattle.std.specs.FinMap as map;
 ghost use Rattle.ipc_model.specs.state.Ipc.{port_held};
@@ -10,8 +10,8 @@ use ipc_model::Entry;
 use std::alloc::{AllocError, Global};
 use tracked_map::TrackedMap;
 
-/// What stands under each name; the names by the ports that they hold send or receive rights of; and the unused names:
-/// the gaps below `low`, and `low` itself if there is no gap.
+/// The entries by name; the names by the ports of which they hold send or receive rights; and the gaps, which are the
+/// unused names below `low`. `low` itself is unused.
 #[derive(Drop)]
 pub(crate) struct Tables {
     pub(crate) names: TrackedMap<Entry>,
@@ -22,7 +22,7 @@ pub(crate) struct Tables {
 }
 
 impl Tables {
-    /// Empty tables. They take no memory.
+    /// Creates empty tables. It allocates nothing.
     pub(crate) fn new(alloc: Global) -> Self
         ensures { AreNew result }
     {
@@ -35,7 +35,7 @@ impl Tables {
         }
     }
 
-    /// The least name from `from` on that holds a send or receive right of a port.
+    /// Returns the least name from `from` on that holds a send or receive right of a port.
     pub(crate) fn next_name(&self, port: u64, from: u32) -> Option<u32>
         requires ports { AreByPort self.now.names.current self.now.by_port.current }
         ensures { MatchOption result ((name : ℕ) → from ≤ name → name < 2 ^ 32
@@ -43,7 +43,7 @@ impl Tables {
             (λ found. (from ≤ found) × (holds self.now.names.current port found ≡ true)
             × ((name : ℕ) → from ≤ name → name < found → holds self.now.names.current port name ≡ false)) }
     {
-        // No further than the names of this port: those of others may have left many marks.
+        // The walk ends with the names of this port, because those of other ports may have left many marks.
         let last = port_key(port, u32::MAX);
         let Some((key, _)) = self.by_port.next_within(port_key(port, from), last) else {
             return None;
@@ -51,7 +51,7 @@ impl Tables {
         Some((key - port_key(port, 0)) as u32)
     }
 
-    /// Makes a name stand for this, and returns what it stood for. If an allocation fails, the changes must be rolled
+    /// Replaces the entry of a name, and returns the former one. If an allocation fails, the changes must be rolled
     /// back.
     pub(crate) fn put(&mut self, name: u32, entry: Entry) -> Result<Option<Entry>, AllocError>
         requires small { AreSmall self.old.names.current }
@@ -63,7 +63,7 @@ impl Tables {
         let key = u128::from(name);
         let former = self.names.replace(key, entry)?;
         change_port(&mut self.by_port, held_by(former), port_held(&entry), name)?;
-        // A name in use is no gap, nor the least unused one.
+        // A name in use is neither a gap nor `low`.
         if former.is_some() {
             return Ok(former);
         }
@@ -72,7 +72,7 @@ impl Tables {
         Ok(former)
     }
 
-    /// Takes a name out of use, and returns what it stood for. If an allocation fails, the changes must be rolled back.
+    /// Removes a name, and returns its entry. If an allocation fails, the changes must be rolled back.
     pub(crate) fn remove(&mut self, name: u32) -> Result<Option<Entry>, AllocError>
         ensures former { IfOk result (λ former. former ≡ map.get self.old.names.current name) }
         ensures ok { OnOk result (IsRemoved self.old self.new name) }
@@ -86,7 +86,7 @@ impl Tables {
         Ok(former)
     }
 
-    /// Commits the changes. It takes no memory.
+    /// Commits the changes. It allocates nothing.
     pub(crate) fn commit(&mut self)
         ensures { AreCommitted self.old self.new }
     {
@@ -96,7 +96,7 @@ impl Tables {
         self.low_before = self.low;
     }
 
-    /// Rolls the changes back. It takes no memory.
+    /// Rolls the changes back. It allocates nothing.
     pub(crate) fn roll_back(&mut self)
         ensures { AreRolledBack self.old self.new }
     {
@@ -107,7 +107,7 @@ impl Tables {
     }
 }
 
-/// The port that a name holds a send or receive right of, if it is in use and does.
+/// Returns the port of which an entry holds a send or receive right, if the name is in use and holds one.
 fn held_by(entry: Option<Entry>) -> Option<u64>
     ensures { result ≡ option_and_then port_held entry }
 {
@@ -117,7 +117,7 @@ fn held_by(entry: Option<Entry>) -> Option<u64>
     }
 }
 
-/// The port that an entry holds a send or receive right of, if it does.
+/// Returns the port of which an entry holds a send or receive right, if it holds one.
 pub(crate) fn port_held(entry: &Entry) -> Option<u64>
     ensures { result ≡ port_held entry.now }
 {
@@ -127,7 +127,7 @@ pub(crate) fn port_held(entry: &Entry) -> Option<u64>
     }
 }
 
-/// The number of a name by its port.
+/// Returns the key of a name in the index by port.
 pub(crate) fn port_key(port: u64, name: u32) -> u128
     ensures key { result ≡ port_key port name }
     ensures fits { result < 2 ^ 128 }
@@ -135,7 +135,7 @@ pub(crate) fn port_key(port: u64, name: u32) -> u128
     u128::from(port) * (1 << 32) + u128::from(name)
 }
 
-/// A name holds a right of one port, or of none, in place of another.
+/// Moves a name in the index from its former port, if any, to the new one, if any.
 fn change_port(
     by_port: &mut TrackedMap<()>,
     former: Option<u64>,
@@ -153,7 +153,7 @@ fn change_port(
     join_port(by_port, port, name)
 }
 
-/// Makes sure that the name, if it holds a right of a port, is listed under that port.
+/// Keeps a name in the index under the port of which it holds a right, if it holds one.
 fn stay_with_port(
     by_port: &mut TrackedMap<()>,
     port: Option<u64>,
@@ -192,7 +192,7 @@ fn join_port(by_port: &mut TrackedMap<()>, port: Option<u64>, name: u32) -> Resu
     }
 }
 
-/// The bound of the dense names once this name is used: the same, unless this name was it.
+/// Returns `low` after this name is used: the next unused name if it was `low`, else `low`.
 fn next_unused(names: &TrackedMap<Entry>, name: u128, low: u128) -> u128
     requires small { AreSmall names.now.current }
     requires fits { name < 2 ^ 32 }

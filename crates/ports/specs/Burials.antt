@@ -1,4 +1,4 @@
--- The indexes once a port has died which is no request's target and has no requests.
+-- The indexes after the death of a port that is no request's target and has no requests.
 use Rattle.std.proofs.Common.{◌≡◌, ℕ, zero, suc, ◌+◌, ◌-◌, ◌^◌, ◌<◌, ◌==◌, Bool, true, false, cond, ◌&&◌, ◌||◌, List, [], ◌∷◌, map, Option, None, Some, is_some, option_map, option_and_then, refl, sym, ◌∙◌, ap, subst, arith}
 use Rattle.std.proofs.lemmas.Bool.{eqb-true}
 use Rattle.std.specs.Cmp.{nat_cmp_total}
@@ -32,11 +32,11 @@ use Rattle.ports.specs.Indexes.{AreSmall, AreIndexed, present_parts, no_senders_
 use Rattle.ports.specs.Requests.{IsUntargeted}
 use Rattle.ports.specs.declared.indexes.PortIndexes.{PortIndexes}
 
--- nothing is left under this first number
+-- all counts with this first number are 0, and the others are unchanged
 abbrev pub IsCleared : ℕ → Counts → Counts → Type 0
 IsCleared first old new = (a b : ℕ) → b < 2 ^ 64 → count_at new a b ≡ cond (a == first) 0 (count_at old a b)
 
--- a queue of these messages is gone, and so are all rights to its port
+-- the rights of a queue with these messages are removed, and so are all rights to its port
 pub record AreWithout (old new : PortIndexes) (serial : ℕ) (messages : List Message) : Type 0 where
   pub counts : new.counts.current
       ≡ with_count (with_count (messages_fewer old.counts.current serial messages) 0 serial 0) 1 serial 0
@@ -44,7 +44,7 @@ pub record AreWithout (old new : PortIndexes) (serial : ℕ) (messages : List Me
   pub no_senders : new.no_senders.current ≡ old.no_senders.current
   pub destroyed : new.port_destroyed.current ≡ old.port_destroyed.current
 
--- one pair is no longer counted
+-- one pair less is counted
 pub fewer_pairs : (old new : Counts) (a b : ℕ) → new ≡ with_count old a b 0 → 0 < count_at old a b → len new < len old
 fewer_pairs old new a b at many = by (get old (key a b)) refl
   where
@@ -65,14 +65,14 @@ fewer_pairs old new a b at many = by (get old (key a b)) refl
           some n there (len old) refl,
         )
 
--- other pairs stay
+-- other pairs are unchanged
 pub others_stay : (old new : Counts) (first second a b : ℕ) → new ≡ with_count old first second 0 → second < 2 ^ 64
     → b < 2 ^ 64 → (a == first) ≡ false → count_at new a b ≡ count_at old a b
 others_stay old new first second a b at small other apart =
     ap (λ (c : Counts). count_at c a b) at ∙ count_with old first second 0 a b small other ∙ ap
     (λ (t : Bool). cond (t && b == second) 0 (count_at old a b)) apart
 
--- weights that don't see the port
+-- Weights that ignore the port.
 module _ (w : Weight) (serial : ℕ) (blind : (what : RightKind) → w what serial ≡ 0) where
   right_blind : (right : CarriedRight) → carried_weigh w (right_after_death serial right) ≡ carried_weigh w right
   right_blind right = go right.port
@@ -118,7 +118,7 @@ module _ (w : Weight) (serial : ℕ) (blind : (what : RightKind) → w what seri
       ∙ weigh-same (λ (e : ℕ × PortState). port_weigh w e.0 (queue_after_death serial e.1))
       (λ (e : ℕ × PortState). port_weigh w e.0 e.1) (λ e. port_blind e.0 e.1) (entries ports)
 
--- weights that see only the port
+-- Weights that ignore all other ports.
 module _ (w : Weight) (serial : ℕ)
     (only : (what : RightKind) (port : ℕ) → (port == serial) ≡ false → w what port ≡ 0) where
   right_only : (right : CarriedRight) → carried_weigh w (right_after_death serial right) ≡ 0
@@ -192,7 +192,7 @@ own_weight w serial ports untargeted = by (get ports serial) untargeted.none_ask
     by None asked notified = refl
     by (Some port) asked notified = omega (arith, ap (target_weigh w) asked, ap (target_weigh w) notified)
 
--- the counts of both kinds of right to the port are cleared
+-- the counts of send and send-once rights to the port are 0
 cleared_counts : (f g : Weight → ℕ) (counts : Counts) (serial : ℕ) → serial < 2 ^ 64
     → ((what : RightKind) (s : ℕ) → (s == serial) ≡ false → g (right_weight what s) ≡ f (right_weight what s))
     → ((what : RightKind) → g (right_weight what serial) ≡ 0) → AreCounted f counts
@@ -276,7 +276,7 @@ carried_after inner serial (m ∷ messages) =
     (λ i. received_after inner serial m.rights i + carried_after inner serial messages i)
     ∙ cond_sum (inner == serial) (received inner m.rights) (carried_in inner messages)
 
--- what stands under a serial after the death
+-- the port of a serial after the death
 get_buried : (serial : ℕ) (ports : Ports) (q : ℕ)
     → get (map_values (queue_after_death serial) (remove ports serial)) q
     ≡ option_map (queue_after_death serial) (cond (eq_by_cmp nat_cmp q serial) None (get ports q))
@@ -326,7 +326,7 @@ carried_split serial ports inner outer =
               (turned serial outer ∙ sym (eq_cmp outer serial) ∙ apart),
         )
 
--- requests are as before
+-- requests are unchanged
 target_buried : (look : PortState → Option ℕ)
     → ((serial : ℕ) (p : PortState) → look (queue_after_death serial p) ≡ look p) → (serial : ℕ) (ports : Ports)
     → target_at look ports serial ≡ None → (q : ℕ)
@@ -345,7 +345,7 @@ target_buried look stays serial ports none q =
     by true same = sym (ap (target_at look ports) (key_is q serial same) ∙ none)
     by false apart = each (get ports q)
 
--- what messages mention after the death they mentioned before it
+-- a message that names a port after the death named it before
 place_mentions : (serial s : ℕ) (port : PortInMessage) → is_port (carried_after_death serial port) s ≡ true
     → is_port port s ≡ true
 place_mentions serial s in_message.Null to = to

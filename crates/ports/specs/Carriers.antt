@@ -45,7 +45,7 @@ carried_of : (ports : Ports) (inner outer : ℕ) (port : PortState) → get port
     → carried_at ports inner outer ≡ carried_by inner port
 carried_of ports inner outer port there = ap (weight (λ _ p. carried_by inner p) outer) there
 
--- a queue whose count is 0 doesn't carry the receive right
+-- a queue whose count is 0 doesn't contain the receive right
 before_none : (table : PortTable) (parts : Parts) (serial : ℕ) (q : ℕ) (port : PortState) → AreIndexed table parts
     → q < 2 ^ 64 → count_at parts.carriers serial q ≡ 0 → get table.ports q ≡ Some port → carries serial port ≡ false
 before_none table parts serial q port are small none there =

@@ -1,5 +1,5 @@
--- The rights of messages and requests are added to counts and removed from them, and so are receive rights, by the
--- queues that carry them.
+-- Counts of the rights in messages and requests, and of receive rights by the queues that contain them: additions and
+-- subtractions.
 use Rattle.std.proofs.Common.{◌≡◌, ℕ, ◌+◌, ◌^◌, ◌<◌, ◌==◌, Bool, true, false, cond, ◌&&◌, ◌||◌, List, [], ◌∷◌, Option, None, Some, refl, sym, ◌∙◌, ap, arith}
 use Rattle.std.proofs.lemmas.Bool.{eq-eqb}
 use Rattle.std.specs.List.{list_any}
@@ -17,7 +17,7 @@ use Rattle.live_ports.specs.Seen.{is_to, reply_is_to, mentions}
 use Rattle.port_indexes.specs.Counts.{Counts, count_at}
 use Rattle.port_indexes.specs.Rights.{AreCounted, one_more, one_fewer, right_more, right_fewer, count_more, count_fewer, counted_more, counted_fewer, counted_same, turned}
 
--- adds a right that a message carries, if it is one
+-- the counts with a carried right added, if it has a live port
 abbrev pub place_more : Counts → RightKind → PortInMessage → Counts
 place_more counts kind in_message.Null = counts
 place_more counts kind in_message.Dead = counts
@@ -42,7 +42,7 @@ abbrev pub target_more : Counts → Option ℕ → Counts
 target_more counts None = counts
 target_more counts (Some target) = right_more counts kind.SendOnce target
 
--- removed
+-- the counts with a carried right subtracted, if it has a live port
 abbrev pub place_fewer : Counts → RightKind → PortInMessage → Counts
 place_fewer counts kind in_message.Null = counts
 place_fewer counts kind in_message.Dead = counts
@@ -71,7 +71,7 @@ abbrev pub target_fewer : Counts → Option ℕ → Counts
 target_fewer counts None = counts
 target_fewer counts (Some target) = right_fewer counts kind.SendOnce target
 
--- a receive right that a queue carries, added and removed
+-- the counts of carried receive rights, with one added and with one subtracted
 abbrev pub carrier_more : Counts → ℕ → RightKind → PortInMessage → Counts
 carrier_more carriers outer kind.Receive in_message.Null = carriers
 carrier_more carriers outer kind.Receive in_message.Dead = carriers
@@ -101,7 +101,7 @@ queue_fewer carriers outer [] = carriers
 queue_fewer carriers outer (message ∷ messages) =
     queue_fewer (carriers_fewer carriers outer message.rights) outer messages
 
--- each port that is mentioned has a serial of 64 bits
+-- every mentioned port has a serial of 64 bits
 abbrev pub Fit : (ℕ → Bool) → Type 0
 Fit mentioned = (serial : ℕ) → mentioned serial ≡ true → serial < 2 ^ 64
 
@@ -117,7 +117,7 @@ back : (a b : Bool) → b ≡ true → (a || b) ≡ true
 back true b e = refl
 back false b e = e
 
--- what is counted
+-- The values that are counted.
 pub place_counted_more : (f : Weight → ℕ) (counts : Counts) (what : RightKind) (port : PortInMessage)
     → Fit (is_port port) → AreCounted f counts
     → AreCounted (λ w. f w + place_weigh w what port) (place_more counts what port)
@@ -217,14 +217,14 @@ pub target_counted_fewer : (f : Weight → ℕ) (counts : Counts) (target : Opti
 target_counted_fewer f counts None fits are = counted_same _ f counts (λ w. omega arith) are
 target_counted_fewer f counts (Some target) fits are = counted_fewer f counts kind.SendOnce target fits are
 
--- how many receive rights to a port these are
+-- 1 for a receive right to this port, 0 for another right
 abbrev pub receives : ℕ → CarriedRight → ℕ
 receives inner carried = cond (is_receive_right inner carried) 1 0
 
 abbrev pub received : ℕ → List CarriedRight → ℕ
 received inner rights = weigh (receives inner) rights
 
--- this many in one queue
+-- n if it is this queue, else 0
 abbrev pub in_queue : ℕ → ℕ → ℕ → ℕ
 in_queue queue outer n = cond (queue == outer) n 0
 
@@ -310,7 +310,7 @@ carriers_carried_fewer g carriers queue (r ∷ rights) small are =
     (carrier_carried_fewer (λ i o. g i o + in_queue queue o (received i rights)) carriers queue r small
     (λ i o other. omega (arith, are i o other, two_in (queue == o) (receives i r) (received i rights))))
 
--- how many receive rights to a port the messages carry
+-- the number of receive rights to a port in messages
 abbrev pub carried_in : ℕ → List Message → ℕ
 carried_in inner messages = weigh (λ message. received inner message.rights) messages
 

@@ -1,4 +1,4 @@
--- How a change of the ports changes their indexes.
+-- The effect of each change of the ports on their indexes.
 use Rattle.std.proofs.Common.{◌≡◌, ℕ, ◌+◌, ◌-◌, ◌^◌, ◌<◌, ◌≤◌, Bool, true, false, cond, ◌||◌, List, [], ◌∷◌, ◌++◌, Option, None, Some, is_some, option_map, option_and_then, refl, sym, ◌∙◌, ap, subst, arith}
 use Rattle.std.specs.Cmp.{nat_cmp_total}
 use Rattle.std.specs.List.{list_any}
@@ -24,13 +24,13 @@ use Rattle.ports.specs.Counting.{Fit, in_queue, received, target_fewer, target_m
 use Rattle.ports.specs.Indexes.{Parts, TargetsFit, AreSmall, AreIndexed, SameBefore, AreAtRest, AreRetargeted, AreOfMore, former_parts, present_parts, no_senders_of, destroyed_of, target_at, carried_by, carried_at, weighed}
 use Rattle.ports.specs.declared.indexes.PortIndexes.{PortIndexes}
 
--- the ports with one live port changed
+-- the ports after one live port has changed
 pub changed_there : (ports : Ports) (serial : ℕ) (f : PortState → PortState) (port : PortState)
     → get ports serial ≡ Some port → changed ports serial f ≡ insert ports serial (f port)
 changed_there ports serial f port there =
     ap (λ (o : Option PortState). elim o as (λ _. Ports) [ None ↦ ports | Some p ↦ insert ports serial (f p) ]) there
 
--- the indexes as of before
+-- the indexes at the last commit or rollback
 pub indexed_before : (table after : PortTable) (old new : PortIndexes) → after ≡ table → SameBefore old new
     → AreIndexed table (former_parts old) → AreIndexed after (former_parts new)
 indexed_before table after old new same before are =
@@ -94,7 +94,7 @@ none_indexed next fits = record {
     nothing : (w : Weight) → weighed empty w ≡ 0
     nothing w = ap (weigh (λ (e : ℕ × PortState). port_weigh w e.0 e.1)) entries_none
 
--- the target of a request once a live port has changed
+-- the target of a request after a live port has changed
 pub target_changed : (look : PortState → Option ℕ) (ports : Ports) (serial : ℕ) (f : PortState → PortState)
     (port : PortState) (q : ℕ) → get ports serial ≡ Some port
     → target_at look (changed ports serial f) q
@@ -113,7 +113,7 @@ pub target_there : (look : PortState → Option ℕ) (ports : Ports) (serial : �
     → get ports serial ≡ Some port → target_at look ports serial ≡ look port
 target_there look ports serial port there = ap (option_and_then look) there
 
--- what a queue carries once a live port has changed
+-- the receive rights in a queue after a live port has changed
 pub carried_changed : (ports : Ports) (serial : ℕ) (f : PortState → PortState) (port : PortState) (inner outer : ℕ)
     → get ports serial ≡ Some port
     → carried_at (changed ports serial f) inner outer
@@ -160,7 +160,7 @@ small_changed table serial f port there fit small = record {
         subst (λ (x : PortState). Fit (λ s. list_any (mentions s) x.messages)) (some_same (f port) p is) fit
     each k p false is = small.mentioned k p is
 
--- what a port keeps is replaced
+-- the numbers of a port are replaced
 retargeted_at : (table : PortTable) (old new : PortIndexes) (serial : ℕ) (port : PortState) (numbers : PortNumbers)
     → get table.ports serial ≡ Some port → serial < 2 ^ 64 → TargetsFit (numbers_of port) → TargetsFit numbers
     → AreRetargeted old new serial (numbers_of port) numbers → AreIndexed table (present_parts old)
@@ -253,7 +253,7 @@ retargeted_indexed table after old new serial former numbers has fits was_fits i
         retargeted_at table old new serial port numbers there fits (subst TargetsFit alike was_fits) is_fits
         (subst (λ (n : PortNumbers). AreRetargeted old new serial n numbers) alike done) are
 
--- a message comes into a queue
+-- a message is added to a queue
 last_true : (b : Bool) → (b || false) ≡ true → b ≡ true
 last_true true e = refl
 last_true false e = absurd (cc e)
@@ -361,7 +361,7 @@ pushed_indexed table after old new serial message lives fits live is done are =
     by None none some = absurd (cc some)
     by (Some port) there some = pushed_at table old new serial message port there fits live done are
 
--- the next serial is a later one
+-- the next serial is increased
 pub later_indexed : (table after : PortTable) (parts : Parts) (serial : ℕ) → table.next ≤ serial → serial < 2 ^ 64
     → after ≡ record table { next = serial } → AreIndexed table parts → AreIndexed after parts
 later_indexed table after parts serial past fits is are =
@@ -377,7 +377,7 @@ later_indexed table after parts serial past fits is are =
       };
     })
 
--- a port is born
+-- a port is added
 pub added_indexed : (table after : PortTable) (parts : Parts) → table.next < 2 ^ 64 - 1
     → after ≡ record { ports = insert table.ports table.next new_port; next = table.next + 1 } → AreIndexed table parts
     → AreIndexed after parts

@@ -1,4 +1,4 @@
--- The rights that ports keep, counted, and found by the ports that they are to.
+-- The indexes of the rights in queues and requests of ports.
 use Rattle.std.proofs.Common.{◌≡◌, ℕ, ◌^◌, ◌<◌, true, List, Option, Some, is_some, option_and_then}
 use Rattle.std.specs.List.{list_any}
 use Rattle.std.specs.FinMap.{get}
@@ -23,11 +23,11 @@ no_senders_of port = port.no_senders_target
 abbrev pub destroyed_of : PortState → Option ℕ
 destroyed_of port = port.port_destroyed_target
 
--- the target of a port's request, if it lives and has one
+-- the target of a port's request, if the port is live and has a request
 abbrev pub target_at : (PortState → Option ℕ) → Ports → ℕ → Option ℕ
 target_at look ports serial = option_and_then look (get ports serial)
 
--- how many receive rights to a port the queue of another carries
+-- the number of receive rights to a port in another port's queue
 abbrev pub carried_by : ℕ → PortState → ℕ
 carried_by inner port = carried_in inner port.messages
 
@@ -63,7 +63,7 @@ present_parts i =
       destroyed = i.port_destroyed.current;
     }
 
--- serials are those of 64 bits
+-- serials are below the next one, and the next serial and all mentioned ports fit 64 bits
 pub record AreSmall (table : PortTable) : Type 0 where
   pub below : (key : ℕ) → is_some (get table.ports key) ≡ true → key < table.next
   pub mentioned : (key : ℕ) (port : PortState) → get table.ports key ≡ Some port
@@ -77,7 +77,7 @@ pub record AreIndexed (table : PortTable) (parts : Parts) : Type 0 where
   pub destroyed : IsIndexed (target_at destroyed_of table.ports) parts.destroyed
   pub small : AreSmall table
 
--- what a change of the indexes does
+-- the indexes before the changes are the same
 pub record SameBefore (old new : PortIndexes) : Type 0 where
   pub counts : new.counts.before ≡ old.counts.before
   pub carriers : new.carriers.before ≡ old.carriers.before
@@ -91,7 +91,7 @@ pub record AreAtRest (new : PortIndexes) (parts : Parts) : Type 0 where
   pub no_senders : new.no_senders ≡ at_rest parts.no_senders
   pub destroyed : new.port_destroyed ≡ at_rest parts.destroyed
 
--- what a port keeps was replaced
+-- the numbers of a port were replaced
 pub record AreRetargeted (old new : PortIndexes) (serial : ℕ) (former numbers : PortNumbers) : Type 0 where
   pub counts : new.counts.current
       ≡ target_more (target_fewer (target_more
@@ -103,21 +103,21 @@ pub record AreRetargeted (old new : PortIndexes) (serial : ℕ) (former numbers 
   pub destroyed : new.port_destroyed.current
       ≡ moved old.port_destroyed.current serial former.port_destroyed_target numbers.port_destroyed_target
 
--- one more message is in a queue
+-- one message was added to a queue
 pub record AreOfMore (old new : PortIndexes) (queue : ℕ) (message : Message) : Type 0 where
   pub counts : new.counts.current ≡ message_more old.counts.current queue message
   pub carriers : new.carriers.current ≡ carriers_more old.carriers.current queue message.rights
   pub no_senders : new.no_senders.current ≡ old.no_senders.current
   pub destroyed : new.port_destroyed.current ≡ old.port_destroyed.current
 
--- messages are gone from a queue
+-- messages were removed from a queue
 pub record AreOfFewer (old new : PortIndexes) (queue : ℕ) (messages : List Message) : Type 0 where
   pub counts : new.counts.current ≡ messages_fewer old.counts.current queue messages
   pub carriers : new.carriers.current ≡ queue_fewer old.carriers.current queue messages
   pub no_senders : new.no_senders.current ≡ old.no_senders.current
   pub destroyed : new.port_destroyed.current ≡ old.port_destroyed.current
 
--- the requests of a port have targets of 64 bits
+-- the targets of a port's requests have 64 bits
 pub record TargetsFit (numbers : PortNumbers) : Type 0 where
   pub no_senders : TargetFits numbers.no_senders_target
   pub destroyed : TargetFits numbers.port_destroyed_target

@@ -1,4 +1,4 @@
--- What the crates above use of the libraries below, so that they name only one of them.
+-- Re-exports from libraries below, so that crates above name only this one.
 pub use Rattle.live_ports.specs.Changed.{
   changed,
   messages_at,

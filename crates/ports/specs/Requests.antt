@@ -1,4 +1,4 @@
--- Requests whose target is a port, cleared one after another.
+-- Requests whose target is a dying port are cleared one after another.
 use Rattle.std.proofs.Common.{◌≡◌, ℕ, ◌+◌, ◌<◌, ◌≤◌, ◌==◌, Bool, true, false, cond, nat_lt, Option, None, Some, MatchOption, option_map, option_and_then, refl, sym, ◌∙◌, ap, arith}
 use Rattle.std.proofs.lemmas.Bool.{ltb-false, ltb-true}
 use Rattle.std.specs.Cmp.{nat_cmp_total}
@@ -15,7 +15,7 @@ use Rattle.live_ports.specs.Seen.{Ports, queue_after_death}
 use Rattle.live_ports.specs.SeenLaws.{get_changed}
 use Rattle.ports.specs.Indexes.{no_senders_of, destroyed_of, target_at}
 
--- a port without its requests
+-- a port with its no-senders request, or its port-destroyed request, cleared
 abbrev pub no_senders_cleared : PortState → PortState
 no_senders_cleared port = record port { no_senders_target = None }
 
@@ -25,7 +25,7 @@ destroyed_cleared port = record port { port_destroyed_target = None }
 abbrev pub requests_cleared : PortState → PortState
 requests_cleared port = record port { no_senders_target = None; port_destroyed_target = None }
 
--- a port without a request that has this target
+-- a port with its request cleared if the request has this target
 abbrev pub no_senders_forgotten : ℕ → PortState → PortState
 no_senders_forgotten target port = record port { no_senders_target = without_target target port.no_senders_target }
 
@@ -33,14 +33,14 @@ abbrev pub destroyed_forgotten : ℕ → PortState → PortState
 destroyed_forgotten target port =
     record port { port_destroyed_target = without_target target port.port_destroyed_target }
 
--- the first port, from a given one on, whose request has this target, if there is one
+-- the first port from a given one on whose request has this target, if there is one
 abbrev pub IsNextRequester : (PortState → Option ℕ) → Ports → ℕ → ℕ → Option ℕ → Type 0
 IsNextRequester look ports target from found =
     MatchOption found ((q : ℕ) → from ≤ q → is_number (target_at look ports q) target ≡ false)
     (λ first. (is_number (target_at look ports first) target ≡ true)
     × ((q : ℕ) → from ≤ q → q < first → is_number (target_at look ports q) target ≡ false))
 
--- no request has the port for its target, and it has none
+-- no request has the port as its target, and the port has no requests
 pub record IsUntargeted (serial : ℕ) (ports : Ports) : Type 0 where
   pub no_senders : (q : ℕ) → is_number (target_at no_senders_of ports q) serial ≡ false
   pub destroyed : (q : ℕ) → is_number (target_at destroyed_of ports q) serial ≡ false
@@ -50,7 +50,8 @@ pub record IsUntargeted (serial : ℕ) (ports : Ports) : Type 0 where
 same : (m n : Ports) → ((q : ℕ) → get m q ≡ get n q) → m ≡ n
 same m n alike = same_map nat_cmp_total nat_cmp-IsAntisymmetric m n alike
 
--- to forget a request with the target is to clear it
+-- Forgetting has the same result after a request with this target was cleared, and leaves a port without such a request
+-- unchanged.
 pub record IsForgetting (look : PortState → Option ℕ) (clear forget : PortState → PortState) (target : ℕ) : Type 0 where
   pub cleared : (port : PortState) → look (clear port) ≡ None
   pub settles : (port : PortState) → is_number (look port) target ≡ true → forget (clear port) ≡ forget port
@@ -85,13 +86,13 @@ forgets_destroyed target = record {
       (kept target port.port_destroyed_target is);
 }
 
--- how many requests have the target
+-- the number of requests with this target
 abbrev pub requests : (PortState → Option ℕ) → ℕ → Ports → ℕ
 requests look target ports = total (λ _ port. cond (is_number (look port) target) 1 0) ports
 
 module _ (look : PortState → Option ℕ) (clear forget : PortState → PortState) (target : ℕ)
     (forgets : IsForgetting look clear forget target) where
-  -- one is cleared: what is left once all are forgotten is the same
+  -- after one request is cleared, forgetting all has the same result
   pub cleared_settles : (ports : Ports) (serial : ℕ) → is_number (target_at look ports serial) target ≡ true
       → map_values forget (changed ports serial clear) ≡ map_values forget ports
   cleared_settles ports serial is = same _ _ (λ q.
@@ -110,7 +111,7 @@ module _ (look : PortState → Option ℕ) (clear forget : PortState → PortSta
           here (get ports serial) is ∙ ap (λ (k : ℕ). option_map forget (get ports k)) (sym (key_is q serial e))
       at q false e = refl
 
-  -- one fewer is left
+  -- after one request is cleared, there is one less
   pub cleared_fewer : (ports : Ports) (serial : ℕ) → is_number (target_at look ports serial) target ≡ true
       → requests look target (changed ports serial clear) < requests look target ports
   cleared_fewer ports serial is = by (get ports serial) refl is
@@ -127,7 +128,7 @@ module _ (look : PortState → Option ℕ) (clear forget : PortState → PortSta
         ap (λ (o : Option ℕ). cond {A = ℕ} (is_number o target) 1 0) (forgets.cleared port),
       )
 
-  -- no request up to it has the target
+  -- no request up to and including this serial has the target
   pub cleared_passed : (ports : Ports) (at serial : ℕ)
       → ((q : ℕ) → q < at → is_number (target_at look ports q) target ≡ false)
       → ((q : ℕ) → at ≤ q → q < serial → is_number (target_at look ports q) target ≡ false)
@@ -160,7 +161,7 @@ module _ (look : PortState → Option ℕ) (clear forget : PortState → PortSta
       by true e = none (get ports serial)
       by false e = passed (other e)
 
-  -- none is left, neither below nor from there on
+  -- no request is left, neither below `at` nor from there on
   pub none_requests : (ports : Ports) (at : ℕ) → ((q : ℕ) → q < at → is_number (target_at look ports q) target ≡ false)
       → ((q : ℕ) → at ≤ q → is_number (target_at look ports q) target ≡ false) → (q : ℕ)
       → is_number (target_at look ports q) target ≡ false
@@ -170,7 +171,7 @@ module _ (look : PortState → Option ℕ) (clear forget : PortState → PortSta
         | false ↦ λ (e : _). beyond q (ltb-false q at e)
       ] refl
 
-  -- none is left
+  -- nothing is left to forget
   pub all_forgotten : (ports : Ports) → ((q : ℕ) → is_number (target_at look ports q) target ≡ false)
       → map_values forget ports ≡ ports
   all_forgotten ports none = same _ _ (λ q. get-map_values forget ports q ∙ each (get ports q) (none q))
@@ -179,14 +180,14 @@ module _ (look : PortState → Option ℕ) (clear forget : PortState → PortSta
       each None e = refl
       each (Some port) e = ap Some (forgets.stays port e)
 
--- after all of that, no request has the port as its target
+-- after both are forgotten, no request has the port as its target
 without_is : (serial : ℕ) (o : Option ℕ) → is_number (without_target serial o) serial ≡ false
 without_is serial None = refl
 without_is serial (Some t) =
     elim (t == serial) as (λ (b : Bool). (t == serial) ≡ b → is_number (cond b None (Some t)) serial ≡ false)
     [ true ↦ λ (e : _). refl | false ↦ λ (e : _). e ] refl
 
--- the ports without requests to one of them, and without its own
+-- the ports without requests whose target is this port, and without its own requests
 abbrev pub disconnected : ℕ → Ports → Ports
 disconnected serial ports =
     changed (map_values (destroyed_forgotten serial) (map_values (no_senders_forgotten serial) ports)) serial
@@ -279,7 +280,7 @@ disconnected_untargeted serial ports = record {
         each None = refl
         each (Some port) = without_is serial port.port_destroyed_target
 
--- and then its queue goes
+-- the death of a disconnected port is its death
 pub disconnected_dies : (serial : ℕ) (ports : Ports)
     → map_values (queue_after_death serial) (remove (disconnected serial ports) serial)
     ≡ map_values (port_after_death serial) (remove ports serial)
@@ -306,13 +307,13 @@ disconnected_dies serial ports = same _ _ (λ q.
     at q true = refl
     at q false = each (get ports q)
 
--- everything but the ports is as before
+-- only the ports have changed
 pub table_is : (old new : TrackedPorts) (ports : Ports) → new.before ≡ old.before → new.current.next ≡ old.current.next
     → new.current.ports ≡ ports → new ≡ record old { current = record old.current { ports = ports } }
 table_is old new ports before next at =
     λ i. record { before = before i; current = record { ports = at i; next = next i } }
 
--- the ports once the requests are cleared, and once the port has died
+-- the ports after the requests are cleared and the port is removed
 pub disconnected_is : (old first second third : TrackedPorts) (serial : ℕ)
     → first ≡ record old {
       current = record old.current

@@ -1,4 +1,4 @@
-//! Uncounts the rights of a queue or a message that goes, and the rights to a port that dies.
+//! Subtracts the rights of a queue or a message from the counts, and removes the counts of the rights to a dead port.
 ghost use Rattle.std.specs.Prelude.{◌≡◌, ◌+◌, OnOk, drop, map, option_map, take};
 ghost use Rattle.live_ports.specs.Changed.{messages_at};
 ghost use Rattle.live_ports.specs.Seen.{lives_in, seen_message, seen_right};
@@ -10,7 +10,7 @@ use live_ports::LivePorts;
 use port_indexes::PairCounts;
 use std::alloc::AllocError;
 
-/// Uncounts the rights of the messages in a port's queue.
+/// Subtracts the rights of the messages in a port's queue.
 pub(crate) fn subtract_queue(
     counts: &mut PairCounts,
     carriers: &mut PairCounts,
@@ -30,7 +30,7 @@ pub(crate) fn subtract_queue(
     Ok(())
 }
 
-/// Uncounts the rights of the oldest message in a port's queue, if there is one.
+/// Subtracts the rights of the oldest message in a port's queue, if there is one.
 pub(crate) fn subtract_oldest(
     counts: &mut PairCounts,
     carriers: &mut PairCounts,
@@ -52,8 +52,8 @@ pub(crate) fn subtract_oldest(
     Ok(())
 }
 
-/// Uncounts the rights of one message, if there is one. What is left to subtract from this message on is then what is
-/// left after it.
+/// Subtracts the rights of one message, if there is one. Subtracting this message and all later ones from the old
+/// counts gives the same as subtracting the later ones from the new counts.
 fn subtract_message_at(
     counts: &mut PairCounts,
     carriers: &mut PairCounts,
@@ -77,7 +77,7 @@ fn subtract_message_at(
     Ok(())
 }
 
-/// Uncounts the rights of a message, as they are seen.
+/// Subtracts the rights of a message. A right whose port has died counts as none.
 fn subtract_message(
     counts: &mut PairCounts,
     carriers: &mut PairCounts,

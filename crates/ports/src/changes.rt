@@ -1,4 +1,4 @@
-// Changes of the ports.
+// Changes of the live ports.
 ghost use Rattle.std.specs.Prelude.{◌≡◌, ◌<◌, ◌≤◌, ◌+◌, ◌-◌, ◌^◌, OnOk, OnErr, take};
 ghost use Rattle.std.specs.FinMap as map;
 ghost use Rattle.codes.specs.declared.limits.TheConstants.{MAX_PORTS};
@@ -15,7 +15,8 @@ use live_ports::{LivePorts, PortNumbers};
 use std::alloc::AllocError;
 
 impl Ports {
-    /// Replaces what a port has besides its queue, if it lives. If an allocation fails, the changes are rolled back.
+    /// Replaces the numbers of a port, which are all of its state besides the queue, if it is live. If an allocation
+    /// fails, the changes are rolled back.
     pub fn set_numbers(&mut self, serial: u64, numbers: PortNumbers) -> Result<(), AllocError>
         ensures ok { OnOk result (self.new ≡ record self.old {
           current = record self.old.current {
@@ -39,8 +40,8 @@ impl Ports {
         }
     }
 
-    /// Puts a message at the end of a port's queue, whatever the limit, if the port lives. If an allocation fails, as
-    /// for a queue of `u32::MAX` messages, the changes are rolled back.
+    /// Appends a message to a port's queue, regardless of the limit, if the port is live. If an allocation fails, the
+    /// changes are rolled back. A queue of `u32::MAX` messages counts as a failed allocation.
     pub fn push(&mut self, serial: u64, message: Message) -> Result<(), AllocError>
         requires { AreLive self.old.current.ports message }
         ensures ok { OnOk result (self.new ≡ record self.old {
@@ -63,8 +64,8 @@ impl Ports {
         }
     }
 
-    /// Takes the oldest message of a port out of its queue, if there is one. If an allocation fails, the changes are
-    /// rolled back.
+    /// Removes the oldest message from a port's queue, if there is one. If an allocation fails, the changes are rolled
+    /// back.
     pub fn take(&mut self, serial: u64) -> Result<(), AllocError>
         ensures ok { OnOk result (self.new ≡ record self.old {
           current = record self.old.current {
@@ -86,7 +87,7 @@ impl Ports {
         }
     }
 
-    /// Makes a port, which gets the next serial. If an allocation fails, the changes are rolled back.
+    /// Adds a port with the next serial. If an allocation fails, the changes are rolled back.
     pub fn add(&mut self) -> Result<(), AllocError>
         requires room { map.len self.old.current.ports < MAX_PORTS }
         requires serials { self.old.current.next < 2 ^ 64 - 1 }
@@ -107,7 +108,7 @@ impl Ports {
         }
     }
 
-    /// Sets the serial that the next port gets, one that was never given before. It takes no memory.
+    /// Sets the serial of the next port, which was never used before. It allocates nothing.
     pub fn set_next_serial(&mut self, serial: u64)
         requires { self.old.current.next ≤ serial }
         ensures { self.new ≡ record self.old { current = record self.old.current { next = serial } } }

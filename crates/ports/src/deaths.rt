@@ -1,4 +1,4 @@
-// What becomes of the ports when one dies.
+// The effect of a port's death on the other ports.
 ghost use Rattle.std.specs.Prelude.{◌≡◌, ◌<◌, ◌-◌, ◌^◌, OnOk, OnErr, IfSome};
 ghost use Rattle.std.specs.FinMap as map;
 ghost use Rattle.ipc_model.specs.effects.Effects.{map_values, port_after_death};
@@ -15,8 +15,8 @@ use live_ports::{LivePorts, PortNumbers};
 use std::alloc::AllocError;
 
 impl Ports {
-    /// A port dies: it is removed, rights to it in other queues become `MACH_PORT_DEAD`, and requests of ports whose
-    /// target it is are removed. If it is dead, nothing changes. If an allocation fails, the changes are rolled back.
+    /// Removes a dying port. Rights to it in other queues become `MACH_PORT_DEAD`, and requests of ports whose target
+    /// it is are removed. If it is dead already, nothing changes. If an allocation fails, the changes are rolled back.
     pub fn bury(&mut self, serial: u64) -> Result<(), AllocError>
         ensures ok { OnOk result (self.new ≡ record self.old {
           current = record self.old.current {
@@ -41,7 +41,7 @@ impl Ports {
         }) }
         ensures err { OnErr result (self.new ≡ ports_at_rest self.old.before) }
     {
-        // Upward: a request that is gone leaves a mark, and a walk from the first one would pass over it again.
+        // The walk ascends: each removed request leaves a mark, which a walk from the start would pass again.
         let mut at: u64 = 0;
         while let Some(other) = self.no_senders_requester(target, at) {
             self.clear_no_senders(other)?;
@@ -59,7 +59,7 @@ impl Ports {
         }) }
         ensures err { OnErr result (self.new ≡ ports_at_rest self.old.before) }
     {
-        // Upward, as for the other requests.
+        // The walk ascends, as for the no-senders requests.
         let mut at: u64 = 0;
         while let Some(other) = self.port_destroyed_requester(target, at) {
             self.clear_port_destroyed(other)?;
@@ -68,7 +68,7 @@ impl Ports {
         Ok(())
     }
 
-    /// The first port from `from` on whose no-senders request has this target, if there is one.
+    /// Returns the first port from `from` on whose no-senders request has this target.
     fn no_senders_requester(&self, target: u64, from: u64) -> Option<u64>
         ensures next { IsNextRequester no_senders_of self.now.current.ports target from result }
         ensures fits { IfSome result (λ serial. serial < 2 ^ 64 - 1) }
@@ -76,7 +76,7 @@ impl Ports {
         self.indexes.no_senders.next(target, from)
     }
 
-    /// The first port from `from` on whose port-destroyed request has this target, if there is one.
+    /// Returns the first port from `from` on whose port-destroyed request has this target.
     fn port_destroyed_requester(&self, target: u64, from: u64) -> Option<u64>
         ensures next { IsNextRequester destroyed_of self.now.current.ports target from result }
         ensures fits { IfSome result (λ serial. serial < 2 ^ 64 - 1) }
@@ -145,7 +145,7 @@ impl Ports {
         Ok(())
     }
 
-    /// A port dies that is no request's target and has no request.
+    /// Removes a dying port that is no request's target and has no request.
     fn bury_queue(&mut self, serial: u64) -> Result<(), AllocError>
         requires { IsUntargeted serial self.old.current.ports }
         ensures ok { OnOk result (self.new ≡ record self.old {

@@ -1,4 +1,4 @@
-//! The rights in queues and requests by the ports that they are to, as plain tables.
+//! Indexes of the rights in queues and requests by the ports of the rights, as plain tables.
 ghost use Rattle.std.specs.Prelude.{◌≡◌, OnOk, take};
 ghost use Rattle.std.specs.FinMap as map;
 ghost use Rattle.live_ports.specs.Changed.{messages_at};
@@ -13,9 +13,8 @@ use live_ports::{LivePorts, PortNumbers};
 use port_indexes::{PairCounts, PlaceIndex};
 use std::alloc::{AllocError, Global};
 
-/// The rights that messages in queues are and carry, and that requests have as targets, counted by the ports that they
-/// are to; the receive rights in queues, by their ports and the queues' ports; and the ports that have a request, by
-/// its target.
+/// Three indexes. The rights in messages and the targets of requests, counted by port. The receive rights in queues, by
+/// their ports and the queues' ports. The ports that have a request, by the request's target.
 #[derive(Drop)]
 pub(crate) struct PortIndexes {
     pub(crate) counts: PairCounts,
@@ -25,7 +24,7 @@ pub(crate) struct PortIndexes {
 }
 
 impl PortIndexes {
-    /// Empty indexes. It takes no memory.
+    /// Creates empty indexes. It allocates nothing.
     pub(crate) fn new(alloc: Global) -> Self
         ensures { AreAtRest result
             (record { counts = map.empty; carriers = map.empty; no_senders = map.empty; destroyed = map.empty }) }
@@ -38,7 +37,7 @@ impl PortIndexes {
         }
     }
 
-    /// Replaces what a port has besides its queue. If an allocation fails, the changes must be rolled back.
+    /// Replaces the numbers of a port. If an allocation fails, the changes must be rolled back.
     pub(crate) fn change_targets(
         &mut self,
         serial: u64,
@@ -58,7 +57,7 @@ impl PortIndexes {
         self.port_destroyed.change(serial, was, is)
     }
 
-    /// A message is put into a port's queue. If an allocation fails, the changes must be rolled back.
+    /// Adds a message to a port's queue. If an allocation fails, the changes must be rolled back.
     pub(crate) fn add_message(&mut self, serial: u64, message: &Message) -> Result<(), AllocError>
         ensures ok { OnOk result (AreOfMore self.old self.new serial message.now) }
         ensures before { SameBefore self.old self.new }
@@ -69,7 +68,7 @@ impl PortIndexes {
         add_body(&mut self.counts, &mut self.carriers, serial, rights)
     }
 
-    /// The oldest message is taken from a port's queue, if there is one. If an allocation fails, the changes must be
+    /// Removes the oldest message from a port's queue, if there is one. If an allocation fails, the changes must be
     /// rolled back.
     pub(crate) fn remove_oldest(&mut self, ports: &LivePorts, serial: u64) -> Result<(), AllocError>
         ensures ok { OnOk result (AreOfFewer self.old self.new serial
@@ -79,8 +78,8 @@ impl PortIndexes {
         subtract_oldest(&mut self.counts, &mut self.carriers, ports, serial)
     }
 
-    /// A port dies that is no request's target and has no request: its queue goes, and there are no more rights to it.
-    /// If an allocation fails, the changes must be rolled back.
+    /// Removes a dying port that is no request's target and has no request: the rights in its queue, and all rights to
+    /// it. If an allocation fails, the changes must be rolled back.
     pub(crate) fn bury(&mut self, ports: &LivePorts, serial: u64) -> Result<(), AllocError>
         ensures ok { OnOk result (AreWithout self.old self.new serial (messages_at ports.now.current.ports serial)) }
         ensures before { SameBefore self.old self.new }
@@ -91,7 +90,7 @@ impl PortIndexes {
         clear_carriers(&mut self.carriers, serial)
     }
 
-    /// Commits the changes. It takes no memory.
+    /// Commits the changes. It allocates nothing.
     pub(crate) fn commit(&mut self)
         ensures { AreAtRest self.new (present_parts self.old) }
     {
@@ -101,7 +100,7 @@ impl PortIndexes {
         self.port_destroyed.commit();
     }
 
-    /// Rolls the changes back. It takes no memory.
+    /// Rolls the changes back. It allocates nothing.
     pub(crate) fn roll_back(&mut self)
         ensures { AreAtRest self.new (former_parts self.old) }
     {
@@ -112,7 +111,7 @@ impl PortIndexes {
     }
 }
 
-/// Shows that the targets of requests are serials. It does nothing else.
+/// Proves that the targets of requests are serials. It does nothing else.
 pub(crate) fn targets_fit(numbers: PortNumbers)
     ensures { TargetsFit numbers }
 {

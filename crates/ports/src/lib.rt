@@ -1,5 +1,5 @@
-//! The live ports with the rights that they carry and keep, counted, and found by the ports that they are to. Changes
-//! are committed or rolled back.
+//! The live ports, with counts and indexes of the rights in their queues and requests. Changes are committed or rolled
+//! back.
 #![tactic(auto)]
 
 mod burials;

@@ -7,9 +7,8 @@ use live_ports::LivePorts;
 use std::alloc::Global;
 use std::marker::Model;
 
-/// The live ports by their serials, with the rights in their queues and the targets of their requests counted and found
-/// by the port that they are to. Contracts see the ports and the next serial as they were at the last commit or
-/// rollback, and as they are.
+/// The live ports by their serials. The rights in their queues and the targets of their requests are counted and
+/// indexed by port. Contracts see the ports and the next serial at the last commit or rollback, and the current ones.
 #[derive(Drop)]
 pub struct Ports {
     pub(crate) ports: LivePorts,
@@ -32,7 +31,7 @@ impl Model for Ports {
 }
 
 impl Ports {
-    /// No ports; the first gets the serial 1. It takes no memory.
+    /// Creates an empty table, whose first port gets the serial 1. It allocates nothing.
     pub fn new(alloc: Global) -> Self
         ensures { result ≡ ports_at_rest (record { ports = map.empty; next = 1 }) }
     {
@@ -42,7 +41,7 @@ impl Ports {
         }
     }
 
-    /// Commits the changes. It takes no memory.
+    /// Commits the changes. It allocates nothing.
     pub fn commit(&mut self)
         ensures { self.new ≡ ports_at_rest self.old.current }
     {
@@ -50,7 +49,7 @@ impl Ports {
         self.indexes.commit();
     }
 
-    /// Rolls the changes back. It takes no memory.
+    /// Rolls the changes back. It allocates nothing.
     pub fn roll_back(&mut self)
         ensures { self.new ≡ ports_at_rest self.old.before }
     {

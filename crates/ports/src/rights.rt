@@ -6,7 +6,7 @@ use ipc_model::{CarriedRight, PortInMessage, RightKind};
 use port_indexes::PairCounts;
 use std::alloc::AllocError;
 
-/// Counts one more reply right.
+/// Adds a reply right to the counts.
 pub(crate) fn add_reply(
     counts: &mut PairCounts,
     reply: Option<CarriedRight>,
@@ -20,7 +20,7 @@ pub(crate) fn add_reply(
     }
 }
 
-/// Counts the rights of one more body in a port's queue.
+/// Adds the rights of a body in a port's queue to the counts.
 pub(crate) fn add_body(
     counts: &mut PairCounts,
     carriers: &mut PairCounts,

@@ -3,7 +3,7 @@ use Rattle.std.specs.Prelude.{List, refl}
 use Rattle.std.specs.Coded.{Coded, code_by, coded×}
 use base.Stored.{coded_list}
 
--- a list as of the last commit or rollback, and the current one
+-- a list at the last commit or rollback, and the current one
 pub record TrackedList (X : Type 0) : Type 0 where
   pub before : List X
   pub current : List X

@@ -1,4 +1,4 @@
-//! The messages in a port's queue, whose changes are committed or rolled back.
+//! The queue of a port's messages. Its changes are committed or rolled back.
 #![tactic(auto)]
 
 mod queue;

@@ -6,10 +6,10 @@ use std::alloc::{AllocError, Global};
 use std::collections::VecDeque;
 use std::marker::Model;
 
-/// Why a message couldn't be put into a queue.
+/// The reason why a message couldn't be queued.
 #[derive(Clone, Copy, Debug, PartialEq, Eq)]
 pub enum PushFault {
-    /// The queue holds as many messages as its limit allows.
+    /// The queue is at its limit or above it.
     Full,
     /// Out of memory.
     NoMemory,
@@ -26,17 +26,18 @@ impl From<AllocError> for PushFault {
     }
 }
 
-/// How many messages a queue holds at most.
+/// Maximum number of messages in a queue.
 const MAX_MESSAGES: usize = u32::MAX as usize;
 
-/// The messages in a port's queue (`ipc_mqueue`), oldest first: at most `u32::MAX`. Contracts see the list of them as
-/// it was at the last commit or rollback, and as it is. Messages that are taken stay in the ring until then.
+/// The messages in a port's queue (`ipc_mqueue`), oldest first, at most `u32::MAX`. Contracts see two lists: the
+/// messages at the last commit or rollback, and the current ones. Messages that were taken stay in the ring until the
+/// next commit or rollback.
 #[derive(Drop)]
 pub struct Queue {
     messages: VecDeque<Message>,
-    /// How many of the messages, the oldest ones, are taken.
+    /// Number of the oldest messages in the ring that were taken.
     taken: usize,
-    /// How many messages there were.
+    /// Number of messages at the last commit or rollback.
     before: usize,
 }
 
@@ -59,7 +60,7 @@ impl Model for Queue {
 }
 
 impl Queue {
-    /// A queue without messages. It takes no memory.
+    /// Creates an empty queue. It allocates nothing.
     pub fn new(alloc: Global) -> Self
         ensures { result ≡ list_at_rest [] }
     {
@@ -70,21 +71,21 @@ impl Queue {
         }
     }
 
-    /// How many messages there are.
+    /// Returns the number of messages.
     pub fn len(&self) -> u32
         ensures { result ≡ length self.now.current }
     {
         (self.messages.len() - self.taken) as u32
     }
 
-    /// Whether there is no message.
+    /// Returns true if the queue is empty.
     pub fn is_empty(&self) -> bool
         ensures { result ≡ (length self.now.current == 0) }
     {
         self.len() == 0
     }
 
-    /// Puts a message at the end, unless the queue holds as many as its limit allows. At a fault, nothing changed.
+    /// Appends a message, unless the queue is at its limit or above it. At a fault, nothing changed.
     pub fn push(&mut self, limit: u32, message: Message) -> Result<(), PushFault>
         ensures ok { OnOk result (self.new ≡ record self.old { current = self.old.current ++ message ∷ [] }) }
         ensures err { OnErr result (self.new ≡ self.old) }
@@ -96,8 +97,8 @@ impl Queue {
         Ok(self.push_forced(message)?)
     }
 
-    /// Puts a message at the end, whatever the limit. If memory runs out, nothing changed; a queue of `u32::MAX`
-    /// messages counts as out of memory.
+    /// Appends a message regardless of the limit. If out of memory, nothing changed. A queue of `u32::MAX` messages
+    /// counts as out of memory.
     pub fn push_forced(&mut self, message: Message) -> Result<(), AllocError>
         ensures ok { OnOk result (self.new ≡ record self.old { current = self.old.current ++ message ∷ [] }) }
         ensures err { OnErr result (self.new ≡ self.old) }
@@ -108,7 +109,7 @@ impl Queue {
         Ok(self.messages.push_back(message)?)
     }
 
-    /// Takes the oldest message out, if there is one.
+    /// Removes the oldest message, if there is one.
     pub fn take(&mut self)
         ensures { self.new ≡ record self.old { current = drop 1 self.old.current } }
     {
@@ -117,7 +118,7 @@ impl Queue {
         }
     }
 
-    /// The message at an index, counted from the oldest.
+    /// Returns the message at an index, counted from the oldest.
     pub fn message(&self, index: u32) -> &Message
         requires { index < length self.now.current }
         ensures { result.now ≡ slice_index_or self.now.current index result.now }
@@ -125,7 +126,7 @@ impl Queue {
         &self.messages[self.taken + index as usize]
     }
 
-    /// Commits the changes. It takes no memory.
+    /// Commits the changes. It allocates nothing.
     pub fn commit(&mut self)
         ensures { self.new ≡ list_at_rest self.old.current }
     {
@@ -134,7 +135,7 @@ impl Queue {
         self.before = self.messages.len();
     }
 
-    /// Rolls the changes back. It takes no memory.
+    /// Rolls the changes back. It allocates nothing.
     pub fn roll_back(&mut self)
         ensures { self.new ≡ list_at_rest self.old.before }
     {

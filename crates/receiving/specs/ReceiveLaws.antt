@@ -45,7 +45,7 @@ found state serial has = by_port (finmap.get state.ports serial) refl has
     by_port None at some = absurd (cc some)
     by_port (Some port) at some = by_messages port port.messages at refl some
 
--- a receive, by whether it is refused
+-- a receive with this refusal, or with none
 abbrev ReceivesBy : Option KernReturn → Ipc → ℕ → Names → ReceiveArguments → PlainReply → Ipc → List Effect → Type 0
 ReceivesBy refusal old space names arguments answer new effects =
     MatchOption refusal (TakesMessage old space names arguments answer new effects)
@@ -71,7 +71,7 @@ receives_found old space names arguments member serial answer new effects source
       takes = takes is.port is.message is.later is.live is.first;
     })
 
--- The member of a reply that shows it is the one that was found.
+-- The reply names the member that was found.
 shown_member : (old : Ipc) (names : Names) (arguments : ReceiveArguments) (wanted : Preference)
     (member serial other port : ℕ)
     → IsPreferred old names arguments wanted member serial → wanted ≡ preference.Member other
@@ -128,7 +128,7 @@ both_lack : (large lacks : Bool) → (if large then false else lacks) ≡ true �
 both_lack true lacks is = absurd (cc is)
 both_lack false lacks is = (refl, is)
 
--- if there are no names for the message that was found, the reply says so
+-- if the space lacks names for the message that was found, the reply says so
 lacking_answer : (old : Ipc) (space : ℕ) (names : Names) (arguments : ReceiveArguments) (member serial : ℕ)
     (answer : PlainReply) (new : Ipc) (effects : List Effect) → has_message old serial ≡ true
     → OfOldest old serial (λ port message. TakesOut old space names arguments member serial port message answer new
@@ -218,7 +218,7 @@ module _ (old : Ipc) (space : ℕ) (names : Names) (arguments : ReceiveArguments
             ] refl rest
       ] refl may
 
-  -- a receive with the same reply took the same message
+  -- receives with the same choices have the same reply
   pub receives_one_answer : Receives old space names arguments other last others → answer ≡ other
   receives_one_answer may =
       let taken : ReceivesBy None old space names arguments other last others =
@@ -227,6 +227,6 @@ module _ (old : Ipc) (space : ℕ) (names : Names) (arguments : ReceiveArguments
       by_outcome taken.member taken.serial taken.port taken.message taken.later taken.is_source taken.holds taken.live
       taken.first taken.takes
 
--- what a clause says of the value of a result
+-- the fact about a result's value, if the value is known
 pub of_ok : {X Y : Type 0} (P : X → Type 0) (r : Result X Y) (x : X) → r ≡ Ok x → IfOk r P → P x
 of_ok P r x is holds = subst (λ (q : Result _ _). IfOk q P) is holds

@@ -1,4 +1,4 @@
--- The names that a received message's bytes show: those that its rights got.
+-- The names in a received message's bytes, which its rights got.
 use Rattle.std.specs.Prelude.{◌≡◌, ℕ, ◌+◌, ◌*◌, ◌/◌, ◌%◌, ◌^◌, ◌<◌, ◌≤◌, Bool, true, false, ◌==◌, nat_lt, All, List, [], ◌∷◌, ◌++◌, length, take, drop, flat_map, Option, None, Some, Result, Ok, Err, MatchBool, MatchOption, if◌then◌else◌, refl}
 use Rattle.std.proofs.Common.{sym, ◌∙◌, ap, subst, arith, take-append-drop}
 use Rattle.std.proofs.lemmas.Bool.{le-ltb, lt-ltb, eq-eqb, eqb-true, eqb-false}
@@ -30,11 +30,11 @@ use Rattle.ipc_model.specs.state.Ipc.{Names, IsUnused, name_of_port}
 use Rattle.words.specs.WordLaws.{little_number-word}
 use Rattle.words.specs.Words.{AreBytes, word}
 
--- the name of the reply right; a disposition of 0 means that there is none
+-- the name of the reply right, or none if the disposition is 0
 abbrev pub name_in_header : ℕ → ℕ → List ℕ
 name_in_header disposition name = if disposition == 0 then [] else name ∷ []
 
--- the names in the port items of a body; none where no items tile it
+-- the names in the port items of a body, or none if items don't tile it
 abbrev pub names_in_items : Result (List Item) KernReturn → List ℕ
 names_in_items (Ok items) = flat_map names_of_item items
 names_in_items (Err code) = []
@@ -43,12 +43,12 @@ abbrev pub names_in_parts : UsedParts → List ℕ
 names_in_parts parts =
     name_in_header parts.remote_disposition parts.remote ++ names_in_items (items_if_complex parts.complex parts.body)
 
--- The names that a message's bytes show: that of the reply right, and then those of the body's ports, from the left.
--- Fewer bytes than a header's show none.
+-- The names in a message's bytes: the reply right's, then those of the body's ports, from the left. Fewer bytes than a
+-- header contain none.
 unfoldable pub names_shown : List ℕ → List ℕ
 names_shown bytes = if nat_lt (length bytes) header_length then [] else names_in_parts (used_parts bytes)
 
--- what a message with these parts shows
+-- the names in a message with these parts
 pub parts_shown : (bytes : List ℕ) (parts : UsedParts) → HasUsedParts bytes parts
     → names_shown bytes ≡ names_in_parts parts
 unfolding names_shown
@@ -61,11 +61,11 @@ unfolding names_shown
 none_shown bytes short =
     ap (λ (b : Bool). if b then [] else names_in_parts (used_parts bytes)) (lt-ltb (length bytes) header_length short)
 
--- numbers that four bytes hold
+-- names that fit four bytes
 abbrev pub FitWords : List ℕ → Type 0
 FitWords names = All (λ n. n < 2 ^ 32) names
 
--- Words that are written are read back.
+-- The encoding of words is decoded to the same words.
 
 words_back : (names : List ℕ) → FitWords names → words_of (length names) (flat_map word names) ≡ names
 words_back [] fit = refl
@@ -86,7 +86,7 @@ words_are_bytes : (names : List ℕ) → AreBytes (flat_map word names)
 words_are_bytes [] i = omega arith
 words_are_bytes (name ∷ names) i = word_more name (flat_map word names) (words_are_bytes names) i
 
--- Items with names filled in fit, and hold these names.
+-- Items filled with names are encodable, and contain these names.
 
 filled_fit : (items : List Item) (names : List ℕ) → AreItems items → length names ≡ port_count items
     → AreItems (filled items names)
@@ -143,7 +143,7 @@ filled_names (item ∷ items) names many fit =
           (λ i. first i ++ others i) ∙ take-append-drop n names
     ] refl many
 
--- The body of a lawful message shows the names that its ports got.
+-- The body of a lawful message contains the names that its ports got.
 
 ports_shown : (body : List ℕ) (rights : List CarriedRight) (names : List ℕ) → AreBytes body → HoldsPorts body rights
     → length names ≡ length rights → FitWords names
@@ -167,7 +167,7 @@ body_shown message names lawful many fit =
       | false ↦ λ (none : _). sym (nil_from_length names (many ∙ ap length none))
     ] lawful.ports
 
--- What is read from a message's bytes.
+-- The parts of a received message's bytes.
 
 encoding_shown : (bits remote local seqno id : ℕ) (body : List ℕ) → bits < 2 ^ 32 → remote < 2 ^ 32
     → names_shown (message_encoding bits remote local seqno id body) ≡ name_in_header (remote_disposition bits) remote
@@ -185,7 +185,7 @@ encoding_shown bits remote local seqno id body bits_fit remote_fits =
     ∙ (λ i. name_in_header (remote_disposition (bits_is i)) (remote_is i)
     ++ names_in_items (items_if_complex (is_complex (bits_is i)) body))
 
--- the bits as received, of a message with this reply right
+-- the bits of a received message with this reply right
 abbrev bits_with : Option CarriedRight → RightKind → Bool → ℕ
 bits_with reply destination complex = reply_kind_number reply + number_of_kind destination * 2 ^ 8 + complex_bit complex
 
@@ -216,7 +216,7 @@ complex_back reply destination false r d =
     let none : ((reply + destination * 2 ^ 8 + 0) / 2 ^ 31) % 2 ≡ 0 = omega (arith, r, d) in
     ap (λ (n : ℕ). n == 1) none
 
--- the reply right's name before those of the body
+-- the reply right's name precedes those of the body
 with_reply : (message : Message) (reply : Option CarriedRight) (remote member seqno : ℕ) (names : List ℕ)
     → LawfulMessage message → length names ≡ length message.rights → FitWords names → remote < 2 ^ 32
     → names_shown (message_encoding (bits_with reply message.destination message.complex) remote member seqno message.id
@@ -254,7 +254,7 @@ given_shown message (Some right) member seqno (name ∷ names) lawful many fit =
     (All-tail (λ n. n < 2 ^ 32) name names fit) (All-head (λ n. n < 2 ^ 32) name names fit)
     ∙ ap (λ (l : List ℕ). l ++ names) (named_by_kind right.kind name)
 
--- The bytes of a lawful message as received show the names that its rights got.
+-- The bytes of a lawful message, as received, contain the names that its rights got.
 abbrev pub ShownAreGiven : Type 0
 ShownAreGiven =
     (message : Message) (member seqno : ℕ) (given : List ℕ) → LawfulMessage message
@@ -265,7 +265,7 @@ pub shown_are_given : ShownAreGiven
 shown_are_given message member seqno given lawful many fit =
     given_shown message message.reply member seqno given lawful many fit
 
--- Names under which rights arrive are numbers of four bytes, if those in use are.
+-- Names under which rights arrive fit four bytes, if those in use do.
 
 abbrev pub NamesFit : Names → Type 0
 NamesFit names = (name : ℕ) (entry : Entry) → finmap.get names name ≡ Some entry → name < 2 ^ 32

@@ -1,4 +1,4 @@
--- What a receive's reply shows of the choice that was made: the port, and the names that the message's rights got.
+-- The choices that a receive's reply shows: the port, and the names that the message's rights got.
 use Rattle.std.specs.Prelude.{ℕ, List, []}
 use Rattle.codes.specs.declared.kern_return.KernReturn.{KernReturn}
 use Rattle.codes.specs.declared.kern_return.KernReturn.TheVariants.{RcvHeaderErrorSpace}
@@ -9,11 +9,11 @@ use Rattle.receiving.specs.declared.asked.Asked.{Asked}
 use Rattle.receiving.specs.declared.asked.Preference.{Preference}
 use Rattle.receiving.specs.declared.asked.Preference.TheVariants as preference
 
--- what is asked for, in the words of the machine
+-- the arguments as those of the model
 abbrev pub arguments_of : Asked → ReceiveArguments
 arguments_of asked = record { limit = asked.limit; large = asked.large; name = asked.name; waited = asked.waited }
 
--- The reply names the port, except where the space lacked names.
+-- The reply names the port, unless the space lacked names.
 abbrev pub preferred_by_code : KernReturn → ℕ → Preference
 preferred_by_code RcvHeaderErrorSpace member = preference.Lacking
 preferred_by_code _ member = preference.Member member
@@ -22,7 +22,7 @@ abbrev pub preferred_by : PlainReply → Preference
 preferred_by (reply.Message code size member message) = preferred_by_code code member
 preferred_by _ = preference.Least
 
--- the bytes of the message that was received
+-- the bytes of the received message
 abbrev pub encoding_in : PlainReply → List ℕ
 encoding_in (reply.Message code size member message) = message
 encoding_in _ = []

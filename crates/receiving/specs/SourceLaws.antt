@@ -1,4 +1,4 @@
--- Which sources a name has, and which of them is found.
+-- The possible sources of a name, and the one that is found.
 use Rattle.std.specs.Prelude.{◌≡◌, ℕ, zero, suc, Bool, true, false, cond, find, map, flat_map, Contains, List, [], ◌∷◌, ◌++◌, T, Option, None, Some, is_some, option_and_then, if◌then◌else◌, refl}
 use Rattle.std.proofs.Common.{sym, ◌∙◌, ap, subst, arith}
 use Rattle.std.specs.Ordering.{nat_cmp}
@@ -65,7 +65,7 @@ pair_of_name (p ∷ pairs) member at =
     (λ (rest : Contains (map (λ q. q.0) pairs) member). let found = pair_of_name pairs member rest in
     (found.0, later p (member, found.0) pairs found.1))
 
--- what a search finds is in the list and passes the test; where it finds nothing, nothing passes
+-- a search finds an element of the list that passes the test, or nothing if no element passes
 pub find_there : (test : ℕ × ℕ → Bool) (pairs : List (ℕ × ℕ)) (pair : ℕ × ℕ) → find test pairs ≡ Some pair
     → Contains pairs pair × (test pair ≡ true)
 find_there test [] pair is = absurd (cc is)
@@ -153,7 +153,7 @@ named_pair state names set member serial at holds =
     subst (λ (s : ℕ). Contains (member_pairs state names set) (member, s))
     (one_serial names member found.0 serial (pair_holds state names set member found.0 found.1) holds) found.1
 
--- the message that the port under a name gives is its oldest
+-- the oldest message of the port whose receive right a name holds
 
 under_held : (state : Ipc) (names : Names) (member serial : ℕ) → HoldsReceiveRight names member serial
     → port_under state names member ≡ finmap.get state.ports serial
@@ -178,7 +178,7 @@ has_under state names member serial holds =
         ap (λ (p : Option PortState). oldest (elim p as (λ _. List Message) [ None ↦ [] | Some q ↦ q.messages ]))
         (sym at)
 
--- some or none of a list's ports have a message
+-- some port of a list has a message, or none has
 
 none_empty : (state : Ipc) (names : Names) (among : List ℕ) (member : ℕ) → Contains among member
     → is_some (oldest_under state names member) ≡ true → all_empty state names among ≡ false
@@ -204,7 +204,7 @@ every_empty state names (name ∷ others) each =
     ∙ every_empty state names others
     (λ (member : ℕ) (at : Contains others member). each member (later name member others at))
 
--- by the giver of a name's messages
+-- By the source of a name's messages.
 
 same_port : (one other : ℕ) → giver.Port one ≡ giver.Port other → one ≡ other
 same_port one other e = ap port_in e
@@ -349,7 +349,7 @@ both_give : (state : Ipc) (names : Names) (arguments : ReceiveArguments) (prefer
 both_give state names arguments preference member serial has preferred =
     ap (λ (b : Bool). if b then is_preferred state names arguments preference member serial else false) has ∙ preferred
 
--- no member is preferred, where the search for one found none
+-- no member is preferred if the search for a preferred one found none
 pub none_preferred : (state : Ipc) (names : Names) (arguments : ReceiveArguments) (preference : Preference)
     (member serial : ℕ) → giver_of (finmap.get names arguments.name) ≡ giver.Set
     → find (gives state names arguments preference) (member_pairs state names arguments.name) ≡ None

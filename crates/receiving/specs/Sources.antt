@@ -1,4 +1,4 @@
--- From which port a receive takes its message.
+-- The port from which a receive takes its message.
 use Rattle.std.specs.Prelude.{◌≡◌, ℕ, Bool, true, false, ◌==◌, nat_lt, Contains, List, [], ◌∷◌, Option, None, Some, is_some, if◌then◌else◌}
 use Rattle.std.specs.FinMap as finmap
 use Rattle.codes.specs.declared.kern_return.KernReturn.{KernReturn}
@@ -15,7 +15,7 @@ use Rattle.receiving.specs.declared.source.Giver.{Giver}
 use Rattle.receiving.specs.declared.source.Giver.TheVariants as giver
 use Rattle.receiving.specs.declared.source.Source.{Source}
 
--- what gives the messages of a name
+-- the source of the messages of a name
 abbrev pub port_giver : ℕ → Bool → Giver
 port_giver port receive = if receive then giver.Port port else giver.Nothing
 
@@ -26,7 +26,7 @@ giver_of (Some (SendOnce port target)) = giver.Nothing
 giver_of (Some Set) = giver.Set
 giver_of (Some (Dead references)) = giver.Nothing
 
--- whether a port has a message, and whether it is in a set
+-- a port has a message, and a port is in a set
 abbrev pub has_message : Ipc → ℕ → Bool
 has_message state serial = is_some (oldest (messages_at state.ports serial))
 
@@ -41,13 +41,13 @@ port_refusal state arguments serial =
     else if has_message state serial then None
     else Some RcvTimedOut
 
--- a message that isn't too large, but for whose rights the space lacks names
+-- the oldest message isn't too large, but the space lacks names for its rights
 abbrev pub oldest_lacks : ReceiveArguments → Names → List Message → Bool
 oldest_lacks arguments names [] = false
 oldest_lacks arguments names (message ∷ later) =
     if nat_lt arguments.limit (message_size message) then false else lacks_names names message
 
--- a member of a set is preferred, and has a message
+-- a member of a set has a message and is preferred
 abbrev pub is_preferred : Ipc → Names → ReceiveArguments → Preference → ℕ → ℕ → Bool
 is_preferred state names arguments preference.Least member serial = true
 is_preferred state names arguments (preference.Member name) member serial = member == name
@@ -64,14 +64,14 @@ source_value source = (source.member, source.port)
 abbrev pub source_list : Ipc → Names → ReceiveArguments → List ℕ
 source_list state names arguments = source_names (sources state names arguments.name (finmap.get names arguments.name))
 
--- A receive takes its message from this port, whose receive right stands under this name.
+-- A receive may take its message from this port, whose receive right this name holds.
 pub record IsSource (state : Ipc) (names : Names) (arguments : ReceiveArguments) (member serial : ℕ) : Type 0 where
   pub passes : receive_refusal state names arguments ≡ None
   pub among : Contains (source_list state names arguments) member
   pub holds : HoldsReceiveRight names member serial
   pub has : has_message state serial ≡ true
 
--- If any port that might be the source is preferred, so is this one.
+-- If any possible source is preferred, this one is.
 abbrev pub IsPreferred : Ipc → Names → ReceiveArguments → Preference → ℕ → ℕ → Type 0
 IsPreferred state names arguments preference member serial =
     (other : ℕ) (port : ℕ) → Contains (source_list state names arguments) other → HoldsReceiveRight names other port

@@ -1,4 +1,4 @@
--- A port's oldest message, and what taking it out leaves.
+-- A port's oldest message, and the state after it was taken.
 use Rattle.std.specs.Prelude.{IsSome, ◌≡◌, ℕ, ◌+◌, ◌<◌, ◌^◌, Bool, true, false, nat_lt, All, List, [], ◌∷◌, ◌++◌, length, drop, Option, None, Some, option_map, MatchBool, refl}
 use Rattle.std.proofs.Common.{sym, ◌∙◌, ap, subst, arith}
 use Rattle.std.specs.FinMap as finmap
@@ -27,7 +27,7 @@ use Rattle.receiving.specs.ShownNames.{arrived_small, lawful_fit, names_shown, s
 use Rattle.receiving.specs.Shows.{encoding_in}
 use Rattle.receiving.specs.Taking.{OfOldest}
 
--- the messages of a port that lives
+-- the messages of a live port
 pub messages_of_port : (state : Ipc) (serial : ℕ) (port : PortState) → finmap.get state.ports serial ≡ Some port
     → messages_at state.ports serial ≡ port.messages
 messages_of_port state serial port live = ap messages_in live
@@ -72,7 +72,7 @@ names_then_oldest state space serial names = elim (finmap.get state.ports serial
     without : PortState → ℕ
     without port = next_count port.sequence_number
 
--- what becomes of the message
+-- the outcome for the message that was found
 pub was_large : (old : Ipc) (space : ℕ) (names : Names) (arguments : ReceiveArguments) (member serial : ℕ)
     (port : PortState) (message : Message) (answer : PlainReply) (new : Ipc) (effects : List Effect)
     → nat_lt arguments.limit (message_size message) ≡ true
@@ -112,7 +112,7 @@ was_received old space names arguments member serial port message answer new eff
     ((answer ≡ without_message RcvHeaderErrorSpace 0 0) × (new ≡ old) × (effects ≡ []))
     (Received old space names member serial port message answer new effects)) (sym fits) is)
 
--- a live port and its messages, of which `sent`, as it is seen, is the oldest
+-- a live port and its messages; `sent`, with the rights of dead ports replaced, is the oldest
 pub record Known (state : Ipc) (serial : ℕ) (sent : Message) : Type 0 where
   pub port : PortState
   pub later : List Message
@@ -154,7 +154,7 @@ oldest_long state serial sent given is lawful many =
     ap (λ (names : List ℕ). length (received_body sent names))
     (sym (body_names_seen (lives_in state.ports) sent.reply given)) ∙ long
 
--- a header followed by the body is the message as received
+-- the encodings of header and body together are the received message
 pub encoding_of_header : (message : Message) (member seqno : ℕ) (given : List ℕ) (header : Header)
     (first mid last : List ℕ) → length (received_body message (body_names message.reply given)) ≡ length message.body
     → header ≡ record {
@@ -176,7 +176,7 @@ encoding_of_header message member seqno given header first mid last long is none
     ∙ header_and_body header seqno body size
     ∙ ap (λ (h : Header). message_encoding (header_bits h) h.remote h.local seqno h.id body) is
 
--- a message that was taken out whole
+-- a message that was taken whole
 pub whole_received : (old : Ipc) (space : ℕ) (names : Names) (member serial : ℕ) (port : PortState)
     (message : Message) (answer : PlainReply) (mid new : Ipc) (effects before : List Effect)
     (rights : List CarriedRight)
@@ -198,7 +198,7 @@ whole_received old space names member serial port message answer mid new effects
       consumed ∙ ap (λ (l : List Effect). l ++ destination_consumed message.destination serial) none,
     )
 
--- A reply is determined by what it shows.
+-- A reply is determined by the choices that it shows.
 
 pub large_reported : (old : Ipc) (space : ℕ) (names : Names) (arguments : ReceiveArguments) (member serial : ℕ)
     (port : PortState)

@@ -1,4 +1,4 @@
-//! The bytes of a message as it is received.
+//! The bytes of a received message.
 ghost use Rattle.std.specs.Prelude.{◌≡◌, ◌++◌, ◌<◌, ◌^◌, IfOk, OnOk, length};
 ghost use Rattle.ipc_model.specs.messages.Receiving.{body_names, first_name, message_size, received_body, received_encoding, reply_kind_number, reply_name};
 ghost use Rattle.ipc_model.specs.rights.Dispositions.{number_of_kind};
@@ -10,8 +10,8 @@ use msg_header::Header;
 use std::alloc::{AllocError, Global};
 use type_desc::push_filled_body;
 
-/// The bytes of a message that is received under this name of its port, with this sequence number, if its rights got
-/// these names.
+/// Returns the bytes of a message that is received under this name of its port, with this sequence number, and whose
+/// rights got these names.
 pub(crate) fn received_encoding(
     alloc: Global,
     message: &Message,
@@ -54,7 +54,7 @@ fn header_of(message: &Message, member: u32, given: &[u32]) -> Header
     }
 }
 
-/// The number of a reply right's kind; 0 if there is no reply right.
+/// Returns the number of a reply right's kind, or 0 if there is no reply right.
 fn reply_kind(reply: Option<CarriedRight>) -> u8
     ensures { result ≡ reply_kind_number reply }
 {
@@ -64,14 +64,14 @@ fn reply_kind(reply: Option<CarriedRight>) -> u8
     }
 }
 
-/// The number of a kind as received (`MACH_MSG_TYPE_PORT_RECEIVE`, `_SEND` and `_SEND_ONCE`).
+/// Returns the number of a received right's kind (`MACH_MSG_TYPE_PORT_RECEIVE`, `_SEND` or `_SEND_ONCE`).
 fn kind_number(right: RightKind) -> u8
     ensures { result ≡ number_of_kind right }
 {
     right as u8
 }
 
-/// The name that a reply right got, which is the first one.
+/// Returns the name that the reply right got: the first one.
 fn reply_name(reply: Option<CarriedRight>, given: &[u32]) -> u32
     ensures { result ≡ reply_name reply given.now }
 {
@@ -90,7 +90,7 @@ fn first_name(given: &[u32]) -> u32
     }
 }
 
-/// The names that the rights of the body got: those after the reply right's.
+/// Returns the names that the body's rights got: those after the reply right's.
 fn body_names(reply: Option<CarriedRight>, given: &[u32]) -> &[u32]
     ensures { result.now ≡ body_names reply given.now }
 {
@@ -100,7 +100,7 @@ fn body_names(reply: Option<CarriedRight>, given: &[u32]) -> &[u32]
     }
 }
 
-/// Adds a body with names in the places of its ports.
+/// Appends a body with names in place of its ports.
 fn push_body(message: &Message, names: &[u32], encoding: &mut Vec<u8>) -> Result<(), AllocError>
     ensures { OnOk result (encoding.new.items ≡ encoding.old.items ++ received_body message.now names.now) }
 {

@@ -1,5 +1,5 @@
-//! Receiving a message (Mach 3 Kernel Interfaces, `mach_msg`, `MACH_RCV_MSG`), as it acts on the running state. The
-//! order of the tests is this server's (docs/FORMATS.md).
+//! Receives a message (Mach 3 Kernel Interfaces, `mach_msg`, `MACH_RCV_MSG`) on the running state. The order of the
+//! tests is this server's (docs/FORMATS.md).
 #![tactic(auto)]
 
 mod asked;

@@ -12,21 +12,21 @@ use ipc_model::{CarriedRight, Message};
 use rights::{IpcState, names_needed};
 use std::alloc::{AllocError, Global};
 
-/// How many bytes a message has, header and body.
+/// Returns the length of a message in bytes, header and body.
 pub(crate) fn size_of(message: &Message) -> usize
     ensures { result ≡ message_size message.now }
 {
     HEADER_LENGTH + message.body.as_slice().len()
 }
 
-/// Whether a message is larger than a limit.
+/// Returns true if a message is larger than a limit.
 pub(crate) fn is_too_large(limit: u32, message: &Message) -> bool
     ensures { result ≡ nat_lt limit (message_size message.now) }
 {
     (limit as usize) < size_of(message)
 }
 
-/// The rights that arrive with a message, as they are now: its reply right, and those of its body.
+/// Returns the rights that arrive with a message, as they are now: its reply right, then those of its body.
 pub(crate) fn arriving(
     alloc: Global,
     state: &IpcState,
@@ -70,7 +70,7 @@ fn push_body(
     Ok(())
 }
 
-/// Whether the rights of a message need more new names than a space has left.
+/// Returns true if the rights of a message need more new names than a space has left.
 pub(crate) fn lacks_names(
     alloc: Global,
     state: &IpcState,
@@ -85,7 +85,7 @@ pub(crate) fn lacks_names(
     Ok(lacks_room(state, space, rights.as_slice()))
 }
 
-/// Whether rights need more new names than a space has left.
+/// Returns true if rights need more new names than a space has left.
 pub(crate) fn lacks_room(state: &IpcState, space: u32, rights: &[CarriedRight]) -> bool
     ensures { result ≡ nat_lt MAX_NAMES
         (finmap.len (names_in state.now.current space) + names_needed (names_in state.now.current space)

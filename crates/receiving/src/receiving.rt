@@ -25,26 +25,26 @@ use ipc_model::{CarriedRight, PlainReply, RightKind, Sequence};
 use rights::{IpcState, arrive};
 use std::alloc::{AllocError, Global};
 
-/// What has to be known of a message before it is taken out.
+/// Properties of a message that are needed before it is taken.
 #[derive(Clone, Copy)]
 struct Outline {
     size: u32,
     destination: RightKind,
 }
 
-/// `mach_msg` with `MACH_RCV_MSG`: takes out the oldest message of the port whose receive right a name holds, or of a
-/// member of a set. Its rights arrive in the caller's space, and what its destination sets off goes to the end of the
-/// effects. Of a set it takes the preferred message, if there is one, else that of the member with the least name;
-/// rights arrive under these names if they may. The space must exist, the state must be one that the kernel keeps, and
-/// no effect may wait.
+/// `mach_msg` with `MACH_RCV_MSG`: takes the oldest message of the port whose receive right a name holds, or of a
+/// member of a set. Its rights arrive in the caller's space, and the effects of its destination right are appended to
+/// the pending effects. From a set it takes the preferred message, if there is one, otherwise that of the member with
+/// the least name. Rights arrive under the preferred names if they may. The space must exist, the state must be one
+/// that the kernel keeps, and no effects may be pending.
 ///
 /// The message gets its port's sequence number, which is then incremented.
 ///
 /// The reply's code: `RcvInvalidName` if the name holds neither a receive right nor a set (after a wait `RcvPortDied`),
-/// `RcvInSet` if the port is in a set (after a wait `RcvPortChanged`), `RcvTimedOut` if there is no message;
-/// `RcvTooLarge` if it is larger than the limit, and it is destroyed unless the receive asked for it to stay;
-/// `RcvHeaderErrorSpace` if the space lacks names for its rights. If an allocation fails, the changes must be rolled
-/// back.
+/// `RcvInSet` if the port is in a set (after a wait `RcvPortChanged`), `RcvTimedOut` if there is no message.
+/// `RcvTooLarge` if the message is larger than the limit: it is destroyed, unless the receive asked that it stays
+/// queued. `RcvHeaderErrorSpace` if the space lacks names for its rights. If an allocation fails, the changes must be
+/// rolled back.
 pub fn receive(
     alloc: Global,
     state: &mut IpcState,
@@ -59,7 +59,7 @@ pub fn receive(
     requires lawful { Lawful state.old.current }
     ensures acts { Acts state.old.current space (call.Receive asked.limit asked.large asked.name asked.waited) result
         state.new.current effects.new }
-    // If the call may be answered by a reply that shows this, it is.
+    // If a reply that shows these choices is possible, it is the reply.
     ensures shown { IfOk result (λ reply. (other : machine.PlainReply) → (last : Ipc) → (others : List waiting.Effect)
         → preference ≡ preferred_by other → names.now ≡ names_shown (encoding_in other)
         → ActsIn state.old.current space (names_in state.old.current space)
@@ -75,7 +75,7 @@ pub fn receive(
     }
 }
 
-/// Takes the oldest message of a port out.
+/// Takes the oldest message of a port.
 fn take_out(
     alloc: Global,
     state: &mut IpcState,
@@ -122,7 +122,7 @@ fn take_out(
     Ok(reply)
 }
 
-/// What has to be known of a port's oldest message, if it has one.
+/// Returns the properties of a port's oldest message, if there is one.
 fn outline_of(state: &IpcState, port: u64) -> Option<Outline>
     requires lawful { Lawful state.now.current }
     ensures none { IfNone result (messages_at state.now.current.ports port ≡ []) }
@@ -138,7 +138,7 @@ fn outline_of(state: &IpcState, port: u64) -> Option<Outline>
     }
 }
 
-/// The rights that arrive with a port's oldest message; none if it has no message.
+/// Returns the rights that arrive with a port's oldest message, or none if there is no message.
 fn oldest_rights(
     alloc: Global,
     state: &IpcState,
@@ -152,8 +152,8 @@ fn oldest_rights(
     }
 }
 
-/// The answer to a receive whose message is too large. The message stays if the receive asked for that; else it is
-/// destroyed, with its rights.
+/// Returns the reply to a receive whose message is too large. If the receive asked for that, the message stays queued;
+/// otherwise it is destroyed with its rights.
 fn too_large(
     alloc: Global,
     state: &mut IpcState,
@@ -176,8 +176,7 @@ fn too_large(
     Ok(PlainReply::without_message(alloc, KernReturn::RcvTooLarge, outline.size, source.member))
 }
 
-/// Consumes the destination right of a message that was taken out: a send right is released, a send-once right
-/// vanishes.
+/// Consumes the destination right of a message that was taken: a send right is released, a send-once right vanishes.
 fn consume(right: RightKind, port: u64, effects: &mut Effects) -> Result<(), AllocError>
     ensures { OnOk result (effects.new ≡ effects.old ++ destination_consumed right port) }
 {
@@ -187,7 +186,7 @@ fn consume(right: RightKind, port: u64, effects: &mut Effects) -> Result<(), All
     }
 }
 
-/// Takes a whole message out: its rights arrive, and its destination is consumed.
+/// Takes a whole message: its rights arrive, and its destination right is consumed.
 fn take_whole(
     alloc: Global,
     state: &mut IpcState,
@@ -229,7 +228,8 @@ fn take_whole(
     })
 }
 
-/// The bytes of a port's oldest message as it is received if its rights got these names; none if it has no message.
+/// Returns the bytes of a port's oldest message as it is received if its rights get these names, or no bytes if there
+/// is no message.
 fn oldest_encoding(
     alloc: Global,
     state: &IpcState,
@@ -254,7 +254,7 @@ fn oldest_encoding(
     }
 }
 
-/// The answer of `mach_msg` that reports no message.
+/// Returns the reply of `mach_msg` without a message.
 fn without_message(alloc: Global, code: KernReturn) -> PlainReply
     ensures { result ≡ PlainReply.Message code 0 MACH_PORT_NULL [] }
 {

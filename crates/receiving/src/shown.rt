@@ -8,7 +8,7 @@ use msg_header::{Header, parse};
 use std::alloc::{AllocError, Global};
 use type_desc::{Item, ItemFault, items};
 
-/// Adds the name of the reply right, if the header says that there is one.
+/// Appends the name of the reply right, if the header contains one.
 fn add_reply_name(header: Header, names: &mut Vec<u32>) -> Result<(), AllocError>
     ensures { OnOk result (names.new.items ≡ names.old.items
         ++ shown.name_in_header header.remote_disposition header.remote) }
@@ -19,7 +19,7 @@ fn add_reply_name(header: Header, names: &mut Vec<u32>) -> Result<(), AllocError
     Ok(())
 }
 
-/// Adds the names in an item, from the left: those of its ports, if it is a port item.
+/// Appends the names of an item's ports, from the left, if it is a port item.
 fn add_names(item: &Item<'_>, names: &mut Vec<u32>) -> Result<(), AllocError>
     ensures { OnOk result (names.new.items ≡ names.old.items ++ names_of_item (item_value item.now)) }
 {
@@ -29,7 +29,7 @@ fn add_names(item: &Item<'_>, names: &mut Vec<u32>) -> Result<(), AllocError>
     Ok(())
 }
 
-/// Adds the names in items, from the left.
+/// Appends the names in items, from the left.
 fn add_names_in_items(items: &[Item<'_>], names: &mut Vec<u32>) -> Result<(), AllocError>
     ensures { OnOk result (names.new.items ≡ names.old.items ++ flat_map names_of_item (map item_value items.now)) }
 {
@@ -39,7 +39,7 @@ fn add_names_in_items(items: &[Item<'_>], names: &mut Vec<u32>) -> Result<(), Al
     Ok(())
 }
 
-/// Adds the names in the port items of a body; there are none if items don't tile it.
+/// Appends the names in the port items of a body, or none if items don't tile it.
 fn add_names_in_body(alloc: Global, body: &[u8], names: &mut Vec<u32>) -> Result<(), AllocError>
     ensures { OnOk result (names.new.items ≡ names.old.items ++ shown.names_in_items (items_of body.now)) }
 {
@@ -53,11 +53,10 @@ fn add_names_in_body(alloc: Global, body: &[u8], names: &mut Vec<u32>) -> Result
     }
 }
 
-/// The names that a received message shows, which its rights got in the receiver's space: that of the reply right, if
-/// the header says that there is one, and after it those in the port items of the body, from the left, if
-/// `MACH_MSGH_BITS_COMPLEX` says that there are any.
+/// Returns the names in a received message, which its rights got in the receiver's space: the reply right's, if the
+/// header contains one, then those in the port items of the body, from the left, if `MACH_MSGH_BITS_COMPLEX` is set.
 ///
-/// Fewer bytes than a header has show none, and take no memory. If an allocation fails, nothing is returned.
+/// Fewer bytes than a header contain no names; then it allocates nothing.
 #[tactic(auto, using(crate::specs::ShownNames::none_shown))]
 pub fn names_shown(alloc: Global, message: &[u8]) -> Result<Vec<u32>, AllocError>
     ensures { IfOk result (λ names. names.items ≡ shown.names_shown message.now) }

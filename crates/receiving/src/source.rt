@@ -1,4 +1,4 @@
-//! From which port a message is received: the one whose receive right the name holds, or a member of the set.
+//! The port from which a message is received: the one whose receive right the name holds, or a member of the set.
 ghost use Rattle.std.specs.Prelude.{◌≡◌, None, Some, IfOk, IfErr, find, option_map, if◌then◌else◌};
 ghost use Rattle.std.specs.FinMap as map;
 ghost use Rattle.ipc_model.specs.calls.PortCalls.{names_in};
@@ -14,10 +14,10 @@ use ipc_model::Entry;
 use rights::IpcState;
 use std::alloc::{AllocError, Global};
 
-/// Where a name gets its messages from.
+/// The source of the messages that a name receives.
 #[derive(Clone, Copy)]
 pub(crate) enum Giver {
-    /// The name isn't in use, or holds no receive right and is no set.
+    /// None: the name isn't in use, or holds neither a receive right nor a set.
     Nothing,
     /// The port with this serial, whose receive right the name holds.
     Port(u64),
@@ -25,16 +25,16 @@ pub(crate) enum Giver {
     Set,
 }
 
-/// A port that has a message, and the name of its receive right.
+/// A port with a message, and the name of its receive right.
 #[derive(Clone, Copy)]
 pub(crate) struct Source {
     pub(crate) member: u32,
     pub(crate) port: u64,
 }
 
-/// The port from which a receive takes its message, or the code with which it is refused: the name holds neither a
-/// receive right nor a set (`RcvInvalidName`, or `RcvPortDied` after a wait), the port is in a set (`RcvInSet`, or
-/// `RcvPortChanged` after a wait), or there is no message (`RcvTimedOut`).
+/// Returns the port from which a receive takes its message, or the code with which it is refused: the name holds
+/// neither a receive right nor a set (`RcvInvalidName`, or `RcvPortDied` after a wait), the port is in a set
+/// (`RcvInSet`, or `RcvPortChanged` after a wait), or there is no message (`RcvTimedOut`).
 pub(crate) fn find_source(
     alloc: Global,
     state: &IpcState,
@@ -59,7 +59,7 @@ pub(crate) fn find_source(
     }
 }
 
-/// Where a name with this entry gets its messages from.
+/// Returns the source of the messages that a name with this entry receives.
 fn giver_by(entry: Option<Entry>) -> Giver
     ensures { result ≡ giver_of entry }
 {
@@ -70,7 +70,7 @@ fn giver_by(entry: Option<Entry>) -> Giver
     }
 }
 
-/// The code if neither a receive right nor a set stands under the name. After a wait there was one.
+/// Returns the code for a name that holds neither a receive right nor a set. After a wait it held one before.
 fn not_there(waited: bool) -> KernReturn
     ensures { result ≡ (if waited then KernReturn.RcvPortDied else KernReturn.RcvInvalidName) }
 {
@@ -81,7 +81,7 @@ fn not_there(waited: bool) -> KernReturn
     }
 }
 
-/// The port as the source, or the code with which the receive is refused.
+/// Returns the port as the source, or the code with which the receive is refused.
 fn from_port(state: &IpcState, asked: Asked, port: u64) -> Result<Source, KernReturn>
     ensures found { IfOk result (λ source. (port_refusal state.now.current (arguments_of asked) port ≡ None)
         × (source ≡ record { member = asked.name; port = port })) }
@@ -99,7 +99,7 @@ fn from_port(state: &IpcState, asked: Asked, port: u64) -> Result<Source, KernRe
     })
 }
 
-/// The code if a port delivers its messages through a set. After a wait it has been put there since.
+/// Returns the code for a port in a set. After a wait it was moved there meanwhile.
 fn in_set(waited: bool) -> KernReturn
     ensures { result ≡ (if waited then KernReturn.RcvPortChanged else KernReturn.RcvInSet) }
 {
@@ -110,7 +110,7 @@ fn in_set(waited: bool) -> KernReturn
     }
 }
 
-/// Whether a port is in a set.
+/// Returns true if a port is in a set.
 fn is_in_set(state: &IpcState, port: u64) -> bool
     ensures { result ≡ is_in_set state.now.current port }
 {
@@ -120,7 +120,7 @@ fn is_in_set(state: &IpcState, port: u64) -> bool
     }
 }
 
-/// Whether a port has a message.
+/// Returns true if a port has a message.
 fn has_message(state: &IpcState, port: u64) -> bool
     ensures { result ≡ has_message state.now.current port }
 {
@@ -130,7 +130,7 @@ fn has_message(state: &IpcState, port: u64) -> bool
     }
 }
 
-/// The member of a set that delivers a message: the preferred one, else the one with the least name.
+/// Returns the member of a set whose message is taken: the preferred one, otherwise the one with the least name.
 fn from_set(
     alloc: Global,
     state: &IpcState,
@@ -160,7 +160,7 @@ fn from_set(
     }
 }
 
-/// The first of these members that has a message and is preferred.
+/// Returns the first of these members that has a message and is preferred.
 fn first(
     alloc: Global,
     state: &IpcState,
@@ -185,7 +185,7 @@ fn first(
     Ok(None)
 }
 
-/// Whether a member has a message and is preferred.
+/// Returns true if a member has a message and is preferred.
 fn gives(
     alloc: Global,
     state: &IpcState,
@@ -204,7 +204,7 @@ fn gives(
     is_preferred(alloc, state, space, asked, source, preference)
 }
 
-/// Whether a member is preferred.
+/// Returns true if a member is preferred.
 fn is_preferred(
     alloc: Global,
     state: &IpcState,
@@ -224,7 +224,7 @@ fn is_preferred(
     }
 }
 
-/// Whether a port's oldest message is not too large, but the space lacks names for its rights.
+/// Returns true if a port's oldest message isn't too large but the space lacks names for its rights.
 fn oldest_lacks(
     alloc: Global,
     state: &IpcState,

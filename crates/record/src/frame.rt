@@ -5,7 +5,7 @@ ghost use Rattle.words.specs.Words.{word, frame_encoding};
 use byteorder::{ByteOrder, LittleEndian};
 use words::take_word;
 
-/// The content of the frame that stands in front, and the bytes after it.
+/// Splits off the content of the first frame.
 pub fn take_frame(bytes: &[u8]) -> Option<(&[u8], &[u8])>
     ensures found { IfSome result (λ r. (bytes.now ≡ frame_encoding r.0.now ++ r.1.now) × (length r.0.now < 2 ^ 32)) }
     ensures only { (content rest : List ℕ) → length content < 2 ^ 32 → bytes.now ≡ frame_encoding content ++ rest
@@ -19,7 +19,7 @@ pub fn take_frame(bytes: &[u8]) -> Option<(&[u8], &[u8])>
     Some(rest.split_at(length))
 }
 
-/// Writes the length of a frame into its four bytes at this place. The frame's content stands after them, to the end.
+/// Writes the length of a frame into its four bytes at offset `at`. The frame's content is everything after them.
 pub(crate) fn set_length(out: &mut Vec<u8>, at: usize)
     requires room { at + 4 ≤ length out.old.items }
     requires fits { length out.old.items - (at + 4) < 2 ^ 32 }

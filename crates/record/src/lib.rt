@@ -1,4 +1,4 @@
-//! Records as bytes, in a canonical encoding.
+//! The canonical encoding of records.
 #![tactic(auto)]
 
 mod frame;

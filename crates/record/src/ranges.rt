@@ -5,9 +5,8 @@ ghost use Rattle.ipc_model.specs.encodings.Encodings.{call_encoding, reply_encod
 
 use ipc_model::{Call, Reply, call_in_range, reply_in_range};
 
-/// Shows that the numbers of a call and its reply are in the ranges of their types, which a clause doesn't see behind a
-/// reference: what is kept of the record of a call that has one, whole and with its results, may stand in a segment. It
-/// does nothing else.
+/// Proves that the numbers of a call and its reply are in the ranges of their types, which contracts can't see behind a
+/// reference. So the canonical form of a recorded call, with its results, may be in a segment. It does nothing else.
 pub fn in_range(space: u32, call: &Call, reply: &Reply)
     ensures { IsWholeCall call.now → number_of_reply reply.now ≡ number_of_call call.now
         → HasItsResults call.now reply.now → IsTrue (has_record call.now reply.now)

@@ -10,7 +10,7 @@ use ipc_model::Record;
 use std::alloc::{AllocError, Global};
 use words::{take_long_word, take_word};
 
-/// The number and the space of the record in front, the encodings of its call and its reply, and the bytes after it.
+/// Splits the first record into its number, its space and the encodings of its call and its reply.
 fn take_parts(bytes: &[u8]) -> Option<(u64, u32, &[u8], &[u8], &[u8])>
     ensures found { IfSome result (λ r. bytes.now
         ≡ long_word r.0 ++ (word r.1 ++ (frame_encoding r.2.now ++ (frame_encoding r.3.now ++ r.4.now)))) }
@@ -28,7 +28,7 @@ fn take_parts(bytes: &[u8]) -> Option<(u64, u32, &[u8], &[u8], &[u8])>
     Some((number, space, call, reply, rest))
 }
 
-/// The record of this space whose call and reply have these encodings.
+/// Decodes the record of this space from the encodings of its call and its reply.
 fn read_record(
     alloc: Global,
     space: u32,
@@ -53,7 +53,7 @@ fn read_record(
     Ok(Some(Record { space, call, reply }))
 }
 
-/// The record in front, with its number, and the bytes after it. It can run out of memory only for messages.
+/// Splits off the first record, with its number. It can run out of memory only for messages.
 #[tactic(auto, unfolding(ipc_model::specs::encodings::Encodings::record_encoding))]
 pub fn take_record(alloc: Global, bytes: &[u8]) -> Result<Option<(u64, Record, &[u8])>, AllocError>
     ensures found { IfOk result (λ found. IfSome found (λ r.

@@ -9,8 +9,8 @@ use ipc_model::{Call, Record, Reply};
 use std::alloc::AllocError;
 use words::{push_long_word, push_word};
 
-/// Adds the frame of a call as a record keeps it. If an allocation fails, some of its bytes may have been added. It takes
-/// no memory if there is room.
+/// Appends the frame of a call in canonical form. If an allocation fails, part of it may have been appended. It
+/// allocates nothing if there is room.
 fn push_call_frame(out: &mut Vec<u8>, call: &Call) -> Result<(), AllocError>
     requires { length (call_encoding call.now) < 2 ^ 32 }
     ensures ok { OnOk result (out.new.items ≡ out.old.items ++ frame_encoding (call_encoding (canonical_call call.now))) }
@@ -24,8 +24,8 @@ fn push_call_frame(out: &mut Vec<u8>, call: &Call) -> Result<(), AllocError>
     Ok(())
 }
 
-/// Adds the frame of a reply. If an allocation fails, some of its bytes may have been added. It takes no memory if there
-/// is room.
+/// Appends the frame of a reply. If an allocation fails, part of it may have been appended. It allocates nothing if
+/// there is room.
 fn push_reply_frame(out: &mut Vec<u8>, reply: &Reply) -> Result<(), AllocError>
     requires { length (reply_encoding reply.now) < 2 ^ 32 }
     ensures ok { OnOk result (out.new.items ≡ out.old.items ++ frame_encoding (reply_encoding reply.now)) }
@@ -39,8 +39,8 @@ fn push_reply_frame(out: &mut Vec<u8>, reply: &Reply) -> Result<(), AllocError>
     Ok(())
 }
 
-/// Adds the record of a call of a task of this space with this reply, with its number: the call as a record keeps it.
-/// If an allocation fails, some of its bytes may have been added. It takes no memory if there is room.
+/// Appends a record: its number, the space of the task, the call in canonical form and the reply. If an allocation
+/// fails, part of it may have been appended. It allocates nothing if there is room.
 #[tactic(auto, unfolding(ipc_model::specs::encodings::Encodings::record_encoding))]
 pub fn push_exchange(
     out: &mut Vec<u8>,
@@ -63,8 +63,8 @@ pub fn push_exchange(
     push_reply_frame(out, reply)
 }
 
-/// Adds a record with its number, and its call as a record keeps it. If an allocation fails, some of its bytes may have
-/// been added. It takes no memory if there is room.
+/// Appends a record with this number, and its call in canonical form. If an allocation fails, part of it may have been
+/// appended. It allocates nothing if there is room.
 pub fn push_record(out: &mut Vec<u8>, number: u64, record: &Record) -> Result<(), AllocError>
     requires call { length (call_encoding «record».now.call) < 2 ^ 32 }
     requires reply { length (reply_encoding «record».now.reply) < 2 ^ 32 }

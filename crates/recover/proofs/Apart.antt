@@ -14,7 +14,7 @@ by_parity true false d bytes = refl
 by_parity false true d bytes = refl
 by_parity false false d bytes = refl
 
--- What is inside a segment stays there when an image is written.
+-- The bytes within a segment are unchanged when an image is written.
 pub stays_inside : (e f end : ℕ) (slot : Slot) (first mid written : Slots) (bytes : List ℕ) → slot ≡ segment_slot f
     → end ≤ length (slot_of first slot) → mid ≡ first → written ≡ with_slot mid (image_slot e) bytes
     → end ≤ length (slot_of written slot)

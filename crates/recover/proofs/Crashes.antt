@@ -1,4 +1,4 @@
--- Any number of crashes in a row, each in an opening.
+-- Any number of consecutive crashes, each during an opening.
 use Rattle.std.proofs.Common.{inl, inr, List, [], ◌∷◌, All, sym, subst, arith}
 use Rattle.std.proofs.lemmas.List.Elements.{All-cons, All-nil}
 use Rattle.disk.proofs.Moments.{later_or_now, left_now}
@@ -10,7 +10,7 @@ use Rattle.recover.proofs.Gates.{shut_has_gate}
 use Rattle.recover.proofs.Stages.{IsFresh, fresh_gates, fresh_recovered}
 use Rattle.recover.specs.Crashing.{AlwaysLeaves, AreStopped, CrashesKeep, IsStopped, LeavesSame, StandForSame}
 
--- what a crash left since an opening began, also before it wrote
+-- the contents that a crash left since an opening began, even before it wrote
 left_same : (old new : View) (c : Slots) → Passes old new (LeavesSame old) → LeftSince new old.moment c
     → LeavesSame old c
 left_same old new c time left = elim (later_or_now old.moment left.0 left.1) [
@@ -18,7 +18,7 @@ left_same old new c time left = elim (later_or_now old.moment left.0 left.1) [
   | inr now ↦ inl (subst (λ k. old.left_at k c) now ((time.past left.0 c (omega (arith, now))).0 left.3))
 ]
 
--- P passes from slots to what stands for the same, and slots with P have their last gate
+-- P holds of slots that represent the same states, and slots with P have their last gate
 module _ {D : Type 0} (view : D → View) (lasts : (disk : D) → MayLeave (view disk) (view disk).seen)
     (P : Slots → Type 0) (gates : (s : Slots) → P s → HaveLastGates s)
     (moves : (s c : Slots) → P s → StandForSame s c → P c) where
@@ -48,7 +48,7 @@ module _ {D : Type 0} (view : D → View) (lasts : (disk : D) → MayLeave (view
       let first = one_crash old next always stopped.0 in
       All-cons (λ disk. AlwaysLeaves P (view disk)) next disks first (all_crashes disks next first stopped.1)
 
--- what stands for the same as slots that stand for a state stands for it
+-- slots that represent the same states as slots with this state have this state
 pub same_stands : (state : State) (s c : Slots) → StandForState state s → StandForSame s c → StandForState state c
 same_stands state s c stands same = record { recovered = same.0 state stands.recovered; gates = same.1 }
 

@@ -13,7 +13,7 @@ use Rattle.store_fault.specs.declared.fault.StoreFault.{StoreFault}
 use Rattle.store_fault.specs.declared.fault.StoreFault.TheVariants as fault
 use Rattle.store_layout.specs.Standing.{as_written}
 
--- a fault of these three is none of the fourth kind
+-- a fault of these three kinds isn't `Version`
 pub never_version : {T : Type 0} (r : Result T StoreFault) → OnlyReadingFaults r → IsErrOf r fault.Version → ⊥
 never_version (Ok v) faults is = cc is
 never_version (Err f) faults is = elim faults [
@@ -103,12 +103,12 @@ counts_passed before now f (Err e) is counts = record {
   device = λ reported. counts.device (cc (reported, is));
 }
 
--- a step after others that didn't fail
+-- a step after successful ones
 pub counts_then : {T : Type 0} (before mid now : ℕ) (r : Result T StoreFault) → mid ≡ before → CountsDevice mid now r
     → CountsDevice before now r
 counts_then before mid now r same counts = subst (λ (n : ℕ). CountsDevice n now r) same counts
 
--- a fault of a step whose clauses stand one by one
+-- the fault of a step whose clauses are separate
 pub counts_read : {T U : Type 0} (before mid now : ℕ) (s : Result T StoreFault) (f : StoreFault)
     (r : Result U StoreFault) → mid ≡ before → s ≡ Err f → r ≡ Err f → OnErr s ((s ≡ Err fault.Device) ⊎ (now ≡ mid))
     → (IsErrOf s fault.Device → now ≡ one_more mid) → CountsDevice before now r
@@ -120,7 +120,7 @@ counts_read before mid now (Err e) f (Err h) same from is still device = record 
   device = λ reported. device (cc (reported, from, is)) ∙ ap one_more same;
 }
 
--- what opening a store comes to
+-- The outcome of opening a store.
 
 pub opens_as : (old new : View) (state : State) (segment : Segment) → Recovered (as_written old.seen) state
     → IsKept new segment state → Opens old new (Ok (state, segment))
@@ -131,7 +131,7 @@ pub opens_device : (old new : View) (r : Result (State × Segment) StoreFault) �
 opens_device old new (Ok v) is = absurd (cc is)
 opens_device old new (Err f) is = record { state = tt; kept = tt; unchanged = inl is; untouched = inl is }
 
--- a fault after nothing but reads
+-- a fault after reads only
 pub opens_nothing : (old new : View) (r : Result (State × Segment) StoreFault) (f : StoreFault) → r ≡ Err f
     → ReadsOnly old new → Opens old new r
 opens_nothing old new (Ok v) f is reads = absurd (cc is)

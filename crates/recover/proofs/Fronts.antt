@@ -1,4 +1,4 @@
--- What the front of a slot says, the slot says.
+-- The header that the front of a slot contains is the slot's header.
 use Rattle.std.proofs.Common.{◌≡◌, inl, inr, ℕ, ◌+◌, ◌≤◌, ◌<◌, ◌%◌, ◌^◌, List, ◌++◌, length, take, drop, refl, sym, ap, ◌∙◌, arith, append_assoc, take-append-drop, length-take}
 use Rattle.std.specs.Prelude.{slice_index, ◌-◌, min, Option, Some, None, IfNone}
 use Rattle.std.proofs.Math.Seq.{take-append-add}
@@ -25,7 +25,7 @@ open_front header n slot one is_open =
 front_has : (n : ℕ) (slot : List ℕ) → 2 ≤ n → slice_index (take n slot) 1 ≡ slice_index slot 1
 front_has n slot two = get_or-take n slot 1 0 two
 
--- what a front begins with, the slot begins with
+-- a header at the front is the slot's header
 front_of_epoch : (number epoch n : ℕ) (slot : List ℕ) → IsOfEpoch number epoch (take n slot)
     → IsOfEpoch number epoch slot
 front_of_epoch number epoch n slot is = record {
@@ -38,7 +38,7 @@ front_of_epoch number epoch n slot is = record {
   of_number = is.of_number;
 }
 
--- and conversely, if the front has the whole header
+-- the slot's header is at the front, if the front is long enough
 epoch_of_front : (number epoch n : ℕ) (slot : List ℕ) → 16 ≤ n → IsOfEpoch number epoch slot
     → IsOfEpoch number epoch (take n slot)
 epoch_of_front number epoch n slot whole is =
@@ -73,7 +73,7 @@ says_of_front header n slot Unreadable fits whole says = (
   λ number epoch is. says.2 number epoch (epoch_of_front number epoch n slot whole is),
 )
 
--- what was read of a slot's front
+-- the front of a slot that was read
 pub front_read : (slot buffer old : List ℕ) (n : ℕ) → n ≡ min 24 (length slot - 0)
     → buffer ≡ take n (drop 0 slot) ++ drop n old → take n buffer ≡ take 24 slot
 front_read slot buffer old n count bytes =
@@ -97,7 +97,7 @@ epoch_after slot rest beyond epoch first second fits = record {
   of_number = refl;
 }
 
--- the version that a header says is the slot's
+-- the version in a header is the slot's
 pub header_version : (number epoch : ℕ) (slot : List ℕ) (v : StoreVersion) → (is : IsOfEpoch number epoch slot)
     → version_of slot ≡ version_number v → is.version ≡ v
 header_version number epoch slot v is says =

@@ -1,4 +1,4 @@
--- A gate stands after a segment's batches at each moment of what a server does to the segment.
+-- A gate follows a segment's batches at each moment of a server's writes.
 use Rattle.std.proofs.Common.{◌≡◌, inl, inr, ℕ, ◌+◌, ◌<◌, ◌≤◌, List, [], ◌∷◌, ◌++◌, length, take, drop, refl, sym, ap, subst, ◌∙◌, arith, append_assoc, length-append}
 use Rattle.std.specs.Prelude.{◌-◌}
 use Rattle.std.proofs.lemmas.Bool.{cases_eq}
@@ -15,7 +15,7 @@ use Rattle.recover.specs.Making.{empty_segment}
 use Rattle.store_layout.specs.Gates.{HasLastGate}
 use Rattle.recover.specs.Crashing.{AppendKeepsGate}
 
--- equal bytes that begin with encodings of batches go on alike after these
+-- equal bytes that begin with the encodings of batches have equal rests
 same_rest : (n : ℕ) (more more_too : List (List Record)) (x y : List ℕ) → IsClosed x → IsClosed y
     → AreRecords (all_records more) → AreRecords (all_records more_too)
     → n + length (all_records more) ≤ MAX_RECORDS → n + length (all_records more_too) ≤ MAX_RECORDS
@@ -50,7 +50,7 @@ one_rest bytes r1 r2 a b =
     (omega (arith, a.bounded, ap length a.flat)) (omega (arith, b.bounded, ap length b.flat))
     (sym a.encoding ∙ b.encoding)
 
--- a segment with a reading that has a byte after its batches
+-- a segment that encodes records, with at least a byte after its batches
 pub has_gate : (epoch : ℕ) (segment : List ℕ) (records : List Record) → (known : EncodesSegment epoch segment records)
     → 0 < length known.encoded.rest → HasLastGate segment
 has_gate epoch segment records known some other_epoch others other =
@@ -67,7 +67,7 @@ has_gate epoch segment records known some other_epoch others other =
     } in
     subst (λ l. 0 < length l) (one_rest other.content records others moved other.encoded) some
 
--- a segment that isn't open has no reading
+-- a segment that isn't open encodes no records
 pub shut_has_gate : (segment : List ℕ) → ¬ IsOpen 16 segment → HasLastGate segment
 shut_has_gate segment shut epoch records known =
     absurd (shut (subst (IsOpen 16) (sym known.encoding)

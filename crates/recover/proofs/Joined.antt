@@ -1,4 +1,4 @@
--- What opening a store does, joined call by call.
+-- The steps of opening a store, composed.
 use Rattle.std.proofs.Common.{◌≡◌, inl, inr, ℕ, ◌+◌, ◌<◌, List, [], ◌∷◌, ◌++◌, length, take, refl, sym, ap, subst, ◌∙◌}
 use Rattle.codes.specs.StoreVersion.{version_number}
 use Rattle.codes.specs.declared.store_version.StoreVersion.{StoreVersion}
@@ -43,7 +43,7 @@ leaves_same old mid new first same second =
     passes_then old mid new (MayLeave old) (StandForSame mid.seen) (LeavesSame old) first second (λ c left. inl left)
     (λ c stands. inr (subst (λ (s : Slots). StandForSame s c) same stands))
 
--- a store is made
+-- A store is created.
 
 pub first_segment_same : (old new : View) → IsAtRest old → IsUnused old.seen → IsNew (as_written old.seen)
     → HaveLastGates old.seen
@@ -63,7 +63,7 @@ first_segment_same old new rest unused is_new gates time =
           (segment_keeps_gate 0 old.seen.segment0 c.segment0 (fresh_gate old.seen fresh gates) differs.0),
     ))
 
--- its segment is made
+-- its segment is created
 made_fresh : (s t : Slots) → IsUnused s → IsNew (as_written s) → t ≡ with_slot s Segment0 (empty_segment 0) → IsFresh t
 made_fresh s t unused is_new is =
     subst IsFresh (sym is) (fresh_segment s (empty_segment 0) (unused_fresh s unused is_new) (inr refl))
@@ -142,7 +142,7 @@ first_kept old mid new image segment rest unused is_new is holds first made sync
       counted = refl;
     })
 
--- a store continues
+-- A store continues.
 
 -- the segment in this slot is ended
 abbrev pub EndsAt : View → View → Slot → ℕ → Type 0
@@ -174,7 +174,7 @@ end_kept old new e slot state count end v is read says rest ended =
     (one_kept old.seen new e state count end read rest
     (subst (λ s. new.seen ≡ with_slot old.seen s (take (end + 1) (slot_of old.seen s ++ closed_gate ∷ []))) is ended))
 
--- in the next epoch
+-- It continues in the next epoch.
 
 abbrev NextContent : ℕ → State → List ℕ
 NextContent e base = open_image (e + 1) (image_encoding base)
@@ -220,7 +220,7 @@ next_read old mid written e base state image count end is same parts made =
     (subst (λ (s : Slots). NextParts s e content state count end) (sym same) parts)
     (next_placed mid written e base image is made)
 
--- the segment is as it was
+-- the segment is unchanged
 pub next_says : (old mid written : View) (e : ℕ) (base : State) (image : ImageValue) (v : StoreVersion)
     → image ≡ unwritten (e + 1) (image_encoding base) → mid.seen ≡ old.seen
     → written.seen ≡ with_slot mid.seen (image_slot image.epoch) (open_image image.epoch image.encoding)
@@ -257,7 +257,7 @@ pub rested_after_image : (old mid written : View) (e : ℕ) (base : State) (imag
 rested_after_image old mid written e base image is rest still same writes made synced =
     next_rest mid written e base image is (rest_kept old mid still same rest) writes made synced
 
--- a crash while a store is kept leaves what stands for its state
+-- the contents that a crash leaves of an open store represent its state
 pub kept_stands : (disk : View) (segment : Segment) (state : State) → IsKept disk segment state → (c : Slots)
     → MayLeave disk c → StandForState state c
 kept_stands disk segment state kept c left =

@@ -1,4 +1,4 @@
--- Disks that are synced, and stay so through changes of one slot.
+-- Disks that are synced, and still are after changes of one slot.
 use Rattle.std.proofs.Common.{◌≡◌, inl, inr, ℕ, List, sym, ap, subst, ◌∙◌}
 use Rattle.disk.specs.declared.slot.Slot.{Slot}
 use Rattle.disk.specs.Moments.{View, MayLeave, Passes, Follows, IsSynced}
@@ -7,7 +7,7 @@ use Rattle.disk.proofs.Moments.{left_now, left_before, passes_as, with_own, with
 use Rattle.recover.specs.AtRest.{IsAtRest}
 use Rattle.recover.specs.Making.{DiffersIn}
 
--- a crash leaves what a read gives, except in this slot, of which it may leave anything
+-- a crash leaves the contents that reads return, except in this slot, of which it may leave anything
 abbrev pub IsAtRestBut : Slot → View → Type 0
 IsAtRestBut slot disk = (c : Slots) → MayLeave disk c → c ≡ with_slot disk.seen slot (slot_of c slot)
 
@@ -17,7 +17,7 @@ rest_kept old new time same rest c left = rest c (left_before old new time c lef
 pub rest_is_synced : (slot : Slot) (disk : View) → IsAtRest disk → IsSynced disk slot
 rest_is_synced slot disk rest c left = ap (λ (s : Slots). slot_of s slot) (rest c left)
 
--- a write or a truncation of one slot of a disk at rest
+-- a write or a truncation of one slot of a synced disk
 pub rest_called : (slot : Slot) (old new : View) (step : List ℕ → List ℕ → Type 0) → IsAtRest old
     → Passes old new (Follows old slot step) → Passes old new (DiffersIn old.seen slot (step (slot_of old.seen slot)))
 rest_called slot old new step rest time =
@@ -25,13 +25,13 @@ rest_called slot old new step rest time =
     subst (λ (d : Slots). step (slot_of d slot) (slot_of c slot) × (c ≡ with_slot d slot (slot_of c slot)))
     (rest made.0 made.1) (made.2, made.3))
 
--- a disk that is synced except for one slot
+-- A disk that is synced except for one slot.
 
 pub rest_but : (slot : Slot) (disk : View) → IsAtRest disk → IsAtRestBut slot disk
 rest_but slot disk rest c left =
     sym (with_own slot c) ∙ ap (λ (s : Slots). with_slot s slot (slot_of c slot)) (rest c left)
 
--- a write or a truncation of the one slot
+-- a write or a truncation of that slot
 pub rest_but_changed : (slot : Slot) (old new : View) (step : List ℕ → List ℕ → Type 0) (bytes : List ℕ)
     → Passes old new (Follows old slot step) → new.seen ≡ with_slot old.seen slot bytes → IsAtRestBut slot old
     → IsAtRestBut slot new
@@ -46,14 +46,14 @@ rest_but_changed slot old new step bytes time is rest c left =
     ] in
     at_old ∙ sym over
 
--- and its sync
+-- the sync of that slot
 pub rest_synced : (slot : Slot) (old new : View) → Passes old new (MayLeave old) → new.seen ≡ old.seen
     → IsSynced new slot → IsAtRestBut slot old → IsAtRest new
 rest_synced slot old new time same synced rest c left =
     rest c (left_before old new time c left) ∙ (λ i. with_slot (sym same i) slot (synced c left i))
     ∙ with_own slot new.seen
 
--- steps on the one slot that end with its sync
+-- steps on that slot that end with its sync
 pub rest_after : (slot : Slot) (old new : View) (step : List ℕ → List ℕ → Type 0) (bytes : List ℕ)
     → Passes old new (Follows old slot step) → new.seen ≡ with_slot old.seen slot bytes → IsSynced new slot
     → IsAtRest old → IsAtRest new

@@ -1,4 +1,5 @@
--- What a store stands for while it is made, while a checkpoint is finished, and while its segment is ended.
+-- The state that a store represents while it is created, while a checkpoint is finished, and while its segment is
+-- ended.
 use Rattle.std.specs.Prelude.{◌%◌}
 use Rattle.std.proofs.Common.{◌≡◌, inl, inr, ℕ, ◌+◌, ◌<◌, List, [], ◌∷◌, ◌++◌, length, take, drop, refl, sym, ap, subst, ◌∙◌, arith, append_assoc, take-append-drop, length-append}
 use Rattle.std.proofs.lemmas.Bool.{cases_eq}
@@ -27,7 +28,7 @@ use Rattle.recover.specs.Surveyed.{IsUnused}
 use Rattle.recover.proofs.Gates.{has_gate, shut_has_gate, empty_has_gate}
 use Rattle.recover.proofs.Surveys.{each_number}
 
--- what is recovered
+-- The state that is recovered.
 
 pub run_join : (old mid new : State) (records more : List Record) → Run old records mid → Run mid more new
     → Run old (records ++ more) new
@@ -35,7 +36,7 @@ run_join old mid new [] more first second = subst (λ (s : State). Run s more ne
 run_join old mid new (one ∷ records) more first second =
     (first.0, first.1, run_join first.0 mid new records more first.2 second)
 
--- slots from which one state is recovered stand for what other slots stand for from which the same state is recovered
+-- if two stores recover one state, the second represents the states of the first
 pub same_by_one : (s c : Slots) (state : State) → Recovered (as_written s) state → Recovered (as_written c) state
     → RecoverSame s c
 same_by_one s c state one other found is =
@@ -56,7 +57,7 @@ two_recovered s e base mid state first next two run more =
       run = run_join base mid state first next run more;
     }
 
--- slots that stand for a state
+-- Slots that represent a state.
 
 pub one_stands : (s : Slots) (e : ℕ) (base state : State) (records : List Record) → InOne s e base records
     → Run base records state → HasLastGate (slot_of s (segment_slot e)) → StandForState state s
@@ -115,7 +116,7 @@ unused_fresh s unused new = record {
   segment1 = unused.second;
 }
 
--- no records are in no batches
+-- without records there are no batches
 no_batches : (batches : List (List Record)) → NoneEmpty batches → [] ≡ all_records batches → batches ≡ []
 no_batches [] none is = refl
 no_batches (batch ∷ batches) none is =
@@ -188,7 +189,7 @@ fresh_gate s fresh gates f more encoded =
     (λ followed. fresh.segment1 (subst (IsOpen segment_header_length) (sym followed.encoding) (omega arith, refl))))
     f more encoded
 
--- it is made
+-- It is created.
 
 pub empty_encodes : (e : ℕ) (slot : List ℕ) → slot ≡ empty_segment e → EncodesSegment e slot []
 empty_encodes e slot is =
@@ -236,7 +237,7 @@ segment_keeps_gate e before x has remade = elim remade as (λ _. HasLastGate x) 
   | inr whole ↦ empty_has_gate e x whole
 ]
 
--- the first image stands in its slot
+-- the first image is in its slot
 pub first_made : (s : Slots) (x : List ℕ) → IsFresh s → s.segment0 ≡ empty_segment 0 → HoldsImage 0 x opening_state
     → InOne (with_slot s Image0 x) 0 opening_state []
 first_made s x fresh segment image = record {
@@ -264,7 +265,7 @@ fresh_image s x content fresh segment image remade =
           (first_made s x fresh segment (subst (λ l. HoldsImage 0 l opening_state) (sym whole) image)) refl
     ]
 
--- a checkpoint that is finished
+-- A checkpoint is finished.
 
 pub next_image : (s : Slots) (e : ℕ) (base mid state : State) (first next : List Record) (x content : List ℕ)
     → InTwo s e base first next → Run base first mid → Run mid next state
@@ -279,9 +280,9 @@ next_image s e base mid state first next x content two run more image remade =
           (two_finished s e base mid first next x two (subst (λ l. HoldsImage (e + 1) l mid) (sym whole) image)) more
     ]
 
--- a segment that is ended after its batches
+-- A segment is ended after its batches.
 
--- of what stands after the batches a closed gate is left, or one is put there
+-- a closed gate remains after the batches, or one is written there
 gate_after : (rest : List ℕ) → IsClosed rest → IsClosed (take 1 (rest ++ closed_gate ∷ []))
     × (length (take 1 (rest ++ closed_gate ∷ [])) ≡ 1)
 gate_after [] is = (λ e. cc, refl)

@@ -14,7 +14,7 @@ use Rattle.ipc_laws.specs.RecoveryLaws.{same_version}
 use Rattle.journal.specs.Reading.{MAX_RECORDS, Place, EncodesFrom, Leads, IsLast, IsNothing}
 use Rattle.recover.specs.Replayed.{ReplaysFrom, ReplaysAll}
 
--- What is left to be replayed from here on, in this state, is what was to be replayed at first.
+-- Replaying the remaining records in this state gives the same as replaying all records from the start.
 pub record IsLeft (version : StoreVersion) (segment : List ℕ) (first place : Place) (old now : State) : Type 0 where
   pub same : (state : State) (count end : ℕ)
       → ReplaysFrom version segment place now state count end ↔ ReplaysFrom version segment first old state count end
@@ -58,7 +58,7 @@ left_on version segment first place next entry old now mid so_far leads numbered
   );
 }
 
--- a record that isn't a step, or isn't one of the version
+-- a record that isn't a step, or isn't allowed in the version
 pub none_left : (version : StoreVersion) (segment : List ℕ) (first place next : Place) (entry : Record) (old now : State)
     → IsLeft version segment first place old now → Leads segment place entry next
     → (IsWithin version entry.call → (new : State) → Replays now entry new → ⊥)
@@ -83,7 +83,7 @@ all_replayed version segment first place old now so_far last =
     (so_far.same now place.number place.at).0
     (record { records = []; encoded = last; within = tt; run = refl; counted = omega arith })
 
--- where a reader begins
+-- the first place of a reader
 abbrev pub first_place : ℕ → Place
 first_place batches = record { at = batches; number = 0; left = 0; size = 0 }
 
@@ -160,7 +160,7 @@ never_replayed version segment batches old inside none records state encoded wit
       counted = omega arith;
     })
 
--- a segment's header says its version
+-- a segment's header contains its version
 pub segment_says : (epoch : ℕ) (segment : List ℕ) (records : List Record)
     → (encodes : EncodesSegment epoch segment records) → version_of segment ≡ version_number encodes.version
 segment_says epoch segment records encodes = ap version_of encodes.encoding
@@ -178,13 +178,13 @@ never_read version epoch segment old inside says none records state encodes run 
     never_replayed version segment 16 old inside none records state batches
     (subst (λ (v : StoreVersion). AreWithin v records) same encodes.within) run
 
--- no version has the number that a header says
+-- no version has the number in the header
 pub no_version : (epoch : ℕ) (segment : List ℕ) (records : List Record) → IsNoVersion (version_of segment)
     → EncodesSegment epoch segment records → ⊥
 no_version epoch segment records none encodes =
     none encodes.version (sym (segment_says epoch segment records encodes))
 
--- all that was replayed, from the first batch on
+-- all records were replayed, from the first batch on
 pub replayed_all : (version : StoreVersion) (epoch : ℕ) (segment : List ℕ) (old new : State) (count end : ℕ)
     → 16 ≤ length segment → version_of segment ≡ version_number version → LeavesAnEpoch version epoch
     → ReplaysFrom version segment (first_place 16) old new count end → ReplaysAll epoch segment old new count end

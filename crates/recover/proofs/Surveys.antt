@@ -1,4 +1,4 @@
--- What a store is, by the epochs of its open slots.
+-- The kind of a store, by the epochs of its open slots.
 use Rattle.std.proofs.Common.{◌≡◌, ◌≢◌, ◌⊎◌, inl, inr, ℕ, ◌+◌, ◌≤◌, ◌<◌, ◌%◌, ◌^◌, List, ◌++◌, length, Option, None, Some, IfSome, IfNone, Result, Ok, Err, OnErr, refl, sym, ap, subst, ◌∙◌, arith}
 use Rattle.std.specs.Prelude.{if◌then◌else◌, ◌==◌, slice_index}
 use Rattle.disk.specs.declared.slot.Slot.TheVariants.{Image0, Image1, Segment0, Segment1}
@@ -16,15 +16,14 @@ use Rattle.recover.specs.Surveyed.{Adjoins, IsLatest, IsNoLater}
 use Rattle.recover.specs.declared.headers.Header.{Header}
 use Rattle.recover.specs.declared.headers.Header.TheVariants.{Closed, Open, OtherVersion, Unreadable}
 
--- What the slots of an epoch are, as `Tells` has it: its image's, the other image's, its segment's and the other
--- segment's.
+-- The slots of an epoch as in `Tells`: its image's, the other image's, its segment's and the other segment's.
 pub record TellOf (s : Slots) (e : ℕ) (a b c d : Option ℕ) : Type 0 where
   pub image : Tells image_header (e % 2) (slot_of s (image_slot e)) a
   pub other_image : Tells image_header ((e + 1) % 2) (slot_of s (image_slot (e + 1))) b
   pub segment : Tells segment_header_length (e % 2) (slot_of s (segment_slot e)) c
   pub other_segment : Tells segment_header_length ((e + 1) % 2) (slot_of s (segment_slot (e + 1))) d
 
--- the same for two numbers that are 0 and 1
+-- the same, by the two numbers 0 and 1
 abbrev pub TellBy : Slots → Option ℕ → Option ℕ → Option ℕ → Option ℕ → ℕ → ℕ → Type 0
 TellBy s a b c d n m =
     Tells image_header n (slot_of s (if n == 0 then Image0 else Image1)) a
@@ -47,7 +46,7 @@ tell_odd s e a b c d odd t =
     tell_of s e b a d c (subst (λ n. TellBy s b a d c n ((e + 1) % 2)) (sym odd)
     (subst (λ m. TellBy s b a d c 1 m) (sym even) (t.image1, t.image0, t.segment1, t.segment0)))
 
--- the epoch that a slot is of is the only one
+-- the epoch of a slot is unique
 reported_epoch : (length number n e o : ℕ) (slot : List ℕ) → Tells length number slot (Some o) → IsOfEpoch n e slot
     → o ≡ e
 reported_epoch length number n e o slot tells is =
@@ -64,7 +63,7 @@ encoded_epoch e slot records fits encoded =
       of_number = refl;
     }
 
--- if the disk encodes something, its epoch is the latest image's
+-- if the disk encodes a state, the epoch is the latest image's
 
 before_or_none : (e f : ℕ) (slot : List ℕ) (o : Option ℕ) → Tells image_header ((e + 1) % 2) slot o → IsLatest e o
     → IsOfEpoch ((e + 1) % 2) f slot → IsOpen image_header slot → f ≤ e
@@ -174,7 +173,7 @@ reported_damaged s e other own_segment other_segment tells latest wrong base rec
           ]
     ]
 
--- a store without an open image
+-- A store without an open image.
 
 pub each_number : (P : ℕ → Type 0) → P 0 → P 1 → (number : ℕ) → number < 2 → P number
 each_number P first second number small =
@@ -209,13 +208,13 @@ unused_damaged s segment0 segment1 tells wrong base records encoded = elim encod
       (image_is_open stored.epoch ((as_written s).image (stored.epoch % 2)) base stored.image)
 ]
 
--- headers
+-- Headers.
 
 of_a_version : (header number epoch : ℕ) (slot : List ℕ) → IsOfEpoch number epoch slot → HasOtherVersion header slot → ⊥
 of_a_version header number epoch slot is other =
     other.1 is.version (sym (ap (λ (l : List ℕ). slice_index l 1) is.encoding))
 
--- a header that no slot of its number may have
+-- a header that a slot with its number can't have
 foreign_fails : (header number : ℕ) (slot : List ℕ) (h : Header) → Says header slot h → IsForeign h number
     → (IsOpen header slot → (epoch : ℕ) × IsOfEpoch number epoch slot) → ⊥
 foreign_fails header number slot Closed says foreign fits = foreign
@@ -244,7 +243,7 @@ foreign_damaged s image0 image1 segment0 segment1 says foreign base records enco
       ]
     ]
 
--- a header that fits the slot's number gives the slot's epoch
+-- a header that fits the slot's number contains the slot's epoch
 pub says_tells : (header number : ℕ) (slot : List ℕ) (h : Header) (o : Option ℕ) → Says header slot h
     → ((o ≡ None) × (h ≡ Closed)) ⊎ ((epoch : ℕ) × (o ≡ Some epoch) × (h ≡ Open epoch) × (epoch % 2 ≡ number))
     → Tells header number slot o
@@ -269,12 +268,12 @@ tells_of header number slot h None says some none = says_tells header number slo
 tells_of header number slot h (Some epoch) says some none =
     says_tells header number slot h (Some epoch) says (inr (epoch, refl, some.0, some.1))
 
--- epochs of the two slot numbers differ
+-- the epochs in the two slots differ
 strictly : (s : Slots) (a b c d : Option ℕ) (e : ℕ) → TellAll s a b c d → e % 2 ≡ 1 → IsNoLater e a → IsLatest e a
 strictly s None b c d e tells odd no_later = tt
 strictly s (Some o) b c d e tells odd no_later = omega (arith, no_later, odd, tells.image0.1.of_number)
 
--- what the slots of the latest image's epoch are
+-- the slots of the latest image's epoch
 pub first_tells : (s : Slots) (a b c d : Option ℕ) (e : ℕ) → TellAll s a b c d → a ≡ Some e → TellOf s e (Some e) b c d
 first_tells s a b c d e tells is =
     let moved : TellAll s (Some e) b c d = subst (λ o. TellAll s o b c d) is tells in

@@ -33,7 +33,7 @@ use Rattle.snapshot.specs.declared.rows.Snapshot.{Snapshot}
 use Rattle.recover.specs.Loaded.{HasLimit, HoldsEncoding}
 use Rattle.recover.proofs.Fronts.{header_version}
 
--- bytes that follow their length are determined
+-- bytes that follow their length are unique
 pub one_encoding : (a b x y : List ℕ) → length a < 2 ^ 64 → length b < 2 ^ 64
     → long_word (length a) ++ (a ++ x) ≡ long_word (length b) ++ (b ++ y) → a ≡ b
 one_encoding a b x y fits fits_too is =
@@ -79,7 +79,7 @@ encoding_is_image version number epoch slot encoding state says is holds image =
       kept = image.kept;
     }
 
--- a word that is read after a slot's header
+-- the word after a slot's header
 pub word_read : (slot buffer old beyond : List ℕ) (n size : ℕ) → 24 ≤ length slot → length old ≡ 8
     → n ≡ min (length old) (length slot - 16) → buffer ≡ take n (drop 16 slot) ++ drop n old
     → buffer ≡ long_word size ++ beyond
@@ -99,7 +99,7 @@ word_read slot buffer old beyond n size long one count bytes found =
     nothing [] is = refl
     nothing (x ∷ l) is = absurd (omega (arith, is))
 
--- an encoding that is read after a slot's whole header
+-- the encoding after a slot's whole header
 pub encoding_read : (slot buffer old rest : List ℕ) (n size : ℕ) → drop 16 slot ≡ long_word size ++ rest → size < 2 ^ 64
     → size ≤ length slot - 24 → 24 ≤ length slot → length old ≡ size → n ≡ min (length old) (length slot - 24)
     → buffer ≡ take n (drop 24 slot) ++ drop n old → HoldsEncoding slot buffer
@@ -139,13 +139,13 @@ pub image_as_rows : (version : StoreVersion) (encoding : List ℕ) (state : Stat
     → encoding ≡ snapshot_encoding_of version (snapshot_of state)
 image_as_rows version encoding state is = is.encoding_is ∙ sym (image_of_state version state)
 
--- what holds of what rows are made of
+-- a fact about all mapped elements, as a fact about the elements
 All-unmap : {X Y : Type 0} (P : X → Type 0) (f : Y → X) (ys : List Y) → All P (map f ys) → All (λ y. P (f y)) ys
 All-unmap P f [] all = All-nil (λ y. P (f y))
 All-unmap P f (y ∷ ys) all =
     All-cons (λ y. P (f y)) y ys (All-head P (f y) (map f ys) all) (All-unmap P f ys (All-tail P (f y) (map f ys) all))
 
--- the limits of a state's queues, as rows have them
+-- the limits of a state's queues, in its rows
 rows_have_limits : (version : StoreVersion) (state : State) → HasLimits version state
     → All (HasLimit version) (snapshot_of state).ipc.ports
 unfolding snapshot_of ipc_snapshot_of
@@ -160,7 +160,7 @@ limits_of_rows version state rows serial port at =
     each_entry (λ (e : ℕ × PortState). HasLimit version (port_row e)) state.ipc.ports serial port
     (All-unmap (HasLimit version) port_row (entries state.ipc.ports) rows) at
 
--- what a version lets spaces keep
+-- the kept replies that a version allows
 none_kept : (state : State) → LawfulState state → All (FitsRow One) (map (kept_row state.kept) (entries state.ipc.spaces))
     → (space : ℕ) → get state.kept space ≡ None
 none_kept state lawful rows space = by (get state.kept space) refl
@@ -229,7 +229,7 @@ read_length slot buffer old n count bytes =
       count,
     )
 
--- the encoding that stands in a slot with an image is the image's
+-- the encoding in a slot with an image is the image's
 pub encoding_of_image : (epoch : ℕ) (slot encoding : List ℕ) (state : State) → HoldsEncoding slot encoding
     → (image : HoldsImage epoch slot state) → IsImageIn image.version encoding state
 encoding_of_image epoch slot encoding state holds image =
@@ -245,7 +245,7 @@ encoding_of_image epoch slot encoding state holds image =
       kept = image.kept;
     }
 
--- an image's version is the one that its header says
+-- an image's version is the one in its header
 pub image_version : (epoch : ℕ) (slot : List ℕ) (state : State) (version : StoreVersion)
     → (image : HoldsImage epoch slot state) → version_of slot ≡ version_number version → image.version ≡ version
 image_version epoch slot state version image says =

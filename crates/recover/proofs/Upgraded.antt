@@ -1,5 +1,5 @@
--- A store whose segment in use is of version 1, upgraded: the next segment is made, then the next image, and that
--- segment is ended.
+-- The upgrade of a store whose segment in use is of version 1: the next segment is created, then the next image, and
+-- that segment is ended.
 use Rattle.std.proofs.Common.{◌≡◌, inl, inr, ℕ, ◌+◌, ◌^◌, ◌<◌, ◌≤◌, List, [], ◌∷◌, ◌++◌, length, take, drop, Option, None, Some, refl, sym, ap, subst, ◌∙◌, arith}
 use Rattle.std.specs.Prelude.{◌%◌, IfSome}
 use Rattle.checkpoint.specs.Images.{ImageValue, open_image, unwritten}
@@ -58,7 +58,7 @@ upgrade_fits One e state asked upgrade asks upgraded =
 upgrade_fits Two e state asked upgrade asks upgraded =
     subst (λ (o : Option ImageValue). IfSome o (λ _. e + 1 < 2 ^ 64)) (sym (asks ∙ upgraded)) tt
 
--- What is upgraded: a store that was read, and the next epoch's image.
+-- The premises of an upgrade: a store that was read, and the next epoch's image.
 pub record Upgrades (disk : View) (e : ℕ) (state : State) (count end : ℕ) (image : ImageValue) : Type 0 where
   pub at_rest : IsAtRest disk
   pub read : IsRead disk.seen e state count end
@@ -106,7 +106,7 @@ pub current_says : (disk : View) (state : State) (segment : Segment) (end : ℕ)
 current_says disk state segment end o to_end none =
     to_end.says ∙ ap version_number (current_in to_end.version disk state segment end o to_end refl none)
 
--- the next segment's slot while it is made
+-- the next segment's slot while it is created
 next_segment_stands : (s : Slots) (e : ℕ) (base state : State) (records : List Record) (x : List ℕ)
     → e + 1 < 2 ^ 64 → InOne s e base records → Run base records state → HasLastGate (slot_of s (segment_slot e))
     → IsRemade 16 (empty_segment (e + 1)) (slot_of s (segment_slot (e + 1))) x
@@ -123,13 +123,13 @@ next_segment_stands s e base state records x fits one run gate remade =
           (subst HasLastGate (sym (own_segment s x (e + 1))) (empty_has_gate (e + 1) x whole))
     ]
 
--- slots that stand for a state stand for what the store stood for
+-- slots that represent a state represent the store's states
 as_same : (s c : Slots) (e : ℕ) (state : State) (count end : ℕ) → IsRead s e state count end → StandForState state c
     → StandForSame s c
 as_same s c e state count end read stands =
     (same_by_one s c state (one_found s e state count end read) stands.recovered, stands.gates)
 
--- the next segment is made
+-- the next segment is created
 
 abbrev pub MakesSegment : View → View → ℕ → Type 0
 MakesSegment old mid epoch =
@@ -157,7 +157,7 @@ segment_made_same old mid e state count end image u gates time =
     (next_segment_stands old.seen e u.read.base state u.read.replays.records (slot_of c slot) u.fits u.read.one
     u.read.replays.run gate differs.0)))
 
--- the store in between: its next segment holds no record
+-- the store between the steps: its next segment contains no record
 upgrading_two : (old mid : View) (e : ℕ) (state : State) (count end : ℕ) (image : ImageValue)
     → (u : Upgrades old e state count end image) → HasSegment old mid (e + 1)
     → InTwo mid.seen e u.read.base u.read.replays.records []
@@ -214,7 +214,7 @@ image_made_same old mid new e state count end image u gates time made synced wri
     (segment_made_same old mid e state count end image u gates time)
     (image_written_same old mid new e state count end image u time made synced writes) (λ c is. is) (λ c is. is)
 
--- The store in the next epoch: what would be read of it.
+-- The store in the next epoch, as it would be read.
 
 upgraded_rest : (old mid new : View) (e : ℕ) (state : State) (count end : ℕ) (image : ImageValue)
     → Upgrades old e state count end image → MakesSegment old mid (e + 1) → HasSegment old mid (e + 1)
@@ -303,7 +303,7 @@ upgraded_gates old mid new e state count end image u made written =
     (empty_has_gate (e + 1) (slot_of new.seen (segment_slot (e + 1)))
     (upgraded_segment old mid new e state count end image u made written))
 
--- its segment is ended
+-- Its segment is ended.
 
 pub upgraded_same : (old mid new last : View) (e : ℕ) (slot : Slot) (state : State) (count end : ℕ)
     (image : ImageValue) → Upgrades old e state count end image → HaveLastGates old.seen → MakesSegment old mid (e + 1)

@@ -37,7 +37,7 @@ use Rattle.recover.proofs.Rest.{rest_called}
 use Rattle.recover.proofs.Stages.{cut_encodes, ended_in_use, fresh_encodes, next_image, one_recovered, run_join, same_by_one, two_recovered, unused_fresh}
 use Rattle.recover.proofs.Surveys.{never_new, parts_of}
 
--- stretches of time in which a store stands for the same
+-- Periods in which a store represents the same states.
 
 pub same_self : (s : Slots) → HaveLastGates s → StandForSame s s
 same_self s gates = ((λ state found. found), gates)
@@ -63,7 +63,7 @@ recover_self s state found = found
 pub recover_as : (s c : Slots) → c ≡ s → RecoverSame s c
 recover_as s c is = subst (RecoverSame s) (sym is) (recover_self s)
 
--- the segment in use is the last one
+-- The segment in use is the last one.
 
 pub own_last_gate : (s : Slots) (e : ℕ) (base : State) (records : List Record) → HaveLastGates s
     → InOne s e base records → HasLastGate (slot_of s (segment_slot e))
@@ -72,7 +72,7 @@ own_last_gate s e base records gates one =
     subst P (segment_at s e) (λ encoded. has_gate e ((as_written s).segment (e % 2)) records encoded
     (gates.last e records one.fits encoded (one_not_followed s e base records one))) one.segment
 
--- what a segment that was replayed encodes
+-- The records that a replayed segment encodes.
 
 header_apart : (n e : ℕ) (slot : List ℕ) (old new : State) (count end : ℕ) → IsOfEpoch n e slot
     → (r : ReplaysAll e slot old new count end) → slot ≡ segment_header_of r.version open_gate e ++ drop 16 slot
@@ -93,7 +93,7 @@ replayed_encodes n e slot old new count end is r = record {
   next = r.next;
 }
 
--- the parts of a store in use
+-- The parts of a store in use.
 
 pub one_of_parts : (s : Slots) (e : ℕ) (base : State) (records : List Record) → Uses s e false
     → HoldsImage e (slot_of s (image_slot e)) base → EncodesSegment e (slot_of s (segment_slot e)) records
@@ -119,7 +119,7 @@ two_of_parts s e base first next used image segment more =
       next_segment = more;
     }
 
--- the epoch in use is that of what is stored
+-- the epoch in use is the stored one
 at_most : (s : Slots) (e : ℕ) (follows : Bool) → Uses s e follows
     → (base : State) (records : List Record) (stored : IsStored (as_written s) base records) → stored.epoch ≤ e
 at_most s e follows used base records stored =
@@ -162,7 +162,7 @@ epoch_in_use s e follows used base records stored =
     (subst (IsOfEpoch (e % 2) e) (sym (image_at s e)) used.image) in
     omega (arith, least, at_most s e follows used base records stored)
 
--- What is recovered from a store in use, by its parts.
+-- What is recovered from a store in use, in terms of its parts.
 pub record RunsIn (s : Slots) (e : ℕ) (state : State) : Type 0 where
   pub base : State
   pub mid : State
@@ -198,7 +198,7 @@ runs_in s e follows state used found = elim found.encoded.reading as (λ _. Runs
       }
 ]
 
--- the records of the segment that follows
+-- the records of the next epoch's segment
 pub next_encodes : (s : Slots) (e : ℕ) (next : List Record) → Uses s e true
     → Continues e (slot_of s (segment_slot (e + 1))) next
     → EncodesSegment (e + 1) (slot_of s (segment_slot (e + 1))) next
@@ -213,7 +213,7 @@ next_encodes s e next used (inr (inl before)) =
     ))
 next_encodes s e next used (inr (inr encoded)) = encoded.1
 
--- one run from one image
+-- One run from one image.
 
 one_base : (e : ℕ) (slot : List ℕ) (one other : State) → HoldsImage e slot one → HoldsImage e slot other → one ≡ other
 one_base = one_image
@@ -232,7 +232,7 @@ one_read s e n state other count end is r runs =
     (subst (λ (b : State). Run b r.replays.records runs.mid) base
     (subst (λ (l : List Record). Run runs.base l runs.mid) records runs.run)) r.replays.run
 
--- nothing is recovered if there is no image, or no run of records
+-- nothing is recovered if there is no image or no run of records
 pub read_damaged : (s : Slots) (e : ℕ) (follows : Bool) → Uses s e follows
     → ((base state : State) (records : List Record) → HoldsImage e (slot_of s (image_slot e)) base
     → EncodesSegment e (slot_of s (segment_slot e)) records → Run base records state → ⊥)
@@ -241,7 +241,7 @@ read_damaged s e follows used none state found =
     let runs = runs_in s e follows state used found in
     none runs.base runs.mid runs.first runs.image runs.segment runs.run
 
--- nor if the segment that follows has no run of records
+-- nothing is recovered if the next epoch's segment has no run of records
 pub next_damaged : (s : Slots) (e : ℕ) (mid : State) (count end : ℕ) → Uses s e true → ReadsOne s e mid count end
     → ((records : List Record) (state : State) → EncodesSegment (e + 1) (slot_of s (segment_slot (e + 1))) records
     → Run mid records state → ⊥)
@@ -252,7 +252,7 @@ next_damaged s e mid count end used read none state found =
     let same : runs.mid ≡ mid = one_read s e (e % 2) mid state count end used.segment read runs in
     none runs.next state encoded (subst (λ (m : State). Run m runs.next state) same runs.more)
 
--- the segment in use is ended
+-- The segment in use is ended.
 
 own_gate : (n e : ℕ) (slot : List ℕ) (old new : State) (count end : ℕ) → IsOfEpoch n e slot → HasLastGate slot
     → (r : ReplaysAll e slot old new count end) → 0 < length r.encoded.encoded.rest
@@ -308,7 +308,7 @@ ending_same old new e base state count end rest gates is r one time =
           (subst HasLastGate (sym (own_segment old.seen x e)) (has_gate e x r.records known.0 known.1)),
     ))
 
--- the next image is written
+-- The next image is written.
 
 pub image_same : (old new : View) (e : ℕ) (base mid state : State) (first next : List Record) (content : List ℕ)
     → IsAtRest old → HaveLastGates old.seen → InTwo old.seen e base first next → Run base first mid → Run mid next state
@@ -325,7 +325,7 @@ image_same old new e base mid state first next content rest gates two run more i
       gates_alongside_image old.seen x (e + 1) gates,
     ))
 
--- a store that continues in an epoch
+-- A store that continues in an epoch.
 
 pub one_parts : (s : Slots) (e : ℕ) (state : State) (count end : ℕ) → Uses s e false → ReadsOne s e state count end
     → IsRead s e state count end
@@ -375,7 +375,7 @@ one_kept s new e state count end parts rest is =
       counted = parts.replays.counted;
     }
 
--- A store that continues in the next epoch: what was read of it, and the image to be written.
+-- A store that continues in the next epoch: the contents that were read, and the image to be written.
 pub record NextParts (s : Slots) (e : ℕ) (content : List ℕ) (state : State) (count end : ℕ) : Type 0 where
   pub base : State
   pub mid : State
@@ -416,7 +416,7 @@ next_writing old new e content state count end rest gates parts time =
     image_same old new e parts.base parts.mid state parts.first parts.replays.records content rest gates parts.two
     parts.run parts.replays.run parts.image (next_found old.seen e content state count end parts) time
 
--- the image stands in its slot
+-- the image is in its slot
 pub next_written : (s new : Slots) (e : ℕ) (content : List ℕ) (state : State) (count end : ℕ)
     → NextParts s e content state count end → new ≡ with_slot s (image_slot (e + 1)) content
     → IsRead new (e + 1) state count end
@@ -447,7 +447,7 @@ next_written s new e content state count end parts is =
           (two_finished s e parts.base parts.mid parts.first parts.replays.records content parts.two parts.image);
     }
 
--- what is read without a write
+-- The contents that are read without a write.
 
 pub new_reads : (s : Slots) → IsUnused s → IsNew (as_written s) → Reads s 0 0 opening_state
 new_reads s unused new = record {
@@ -504,12 +504,12 @@ no_run e image_bytes segment_bytes read base state records one other encoded run
     none records state encoded
     (subst (λ (b : State). Run b records state) (one_base e image_bytes base read other one) run)
 
--- what was read of an epoch
+-- the contents that were read of an epoch
 pub reads_one : (s : Slots) (e : ℕ) (base state : State) (count end : ℕ) → HoldsImage e (slot_of s (image_slot e)) base
     → ReplaysAll e (slot_of s (segment_slot e)) base state count end → ReadsOne s e state count end
 reads_one s e base state count end image replays = record { base = base; image = image; replays = replays }
 
--- two segments hold no more records than a word counts
+-- the number of records in two segments fits a word
 pub two_few : (s : Slots) (e : ℕ) (mid state : State) (number stop count end : ℕ) → ReadsOne s e mid number stop
     → ReplaysAll (e + 1) (slot_of s (segment_slot (e + 1))) mid state count end → number + count < 2 ^ 64
 two_few s e mid state number stop count end read replays =

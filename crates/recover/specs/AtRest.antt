@@ -3,6 +3,6 @@ use Rattle.std.specs.Prelude.{◌≡◌}
 use Rattle.disk.specs.Moments.{View, MayLeave}
 use Rattle.disk.specs.Slots.{Slots}
 
--- a crash leaves what a read gives
+-- a crash leaves exactly the contents that reads return
 abbrev pub IsAtRest : View → Type 0
 IsAtRest disk = (c : Slots) → MayLeave disk c → c ≡ disk.seen

@@ -1,4 +1,4 @@
--- What is read of a store.
+-- The contents that are read from a store.
 use Rattle.std.specs.Prelude.{◌≡◌, ◌⊎◌, ℕ, ◌+◌, ◌%◌, ◌<◌, List, length}
 use Rattle.disk.specs.Slots.{Slots, slot_of}
 use Rattle.ipc_model.specs.calls.Step.{Run}
@@ -9,13 +9,13 @@ use Rattle.slot_steps.specs.Steps.{image_slot, segment_slot}
 use Rattle.store_layout.specs.Standing.{as_written, IsPassedImage}
 use Rattle.recover.specs.Replayed.{ReplaysAll}
 
--- an epoch's image is open, and its segment
+-- the image and the segment of an epoch are open
 pub record HasOwn (slots : Slots) (epoch : ℕ) : Type 0 where
   pub image_open : IsOpen image_header (slot_of slots (image_slot epoch))
   pub image : IsOfEpoch (epoch % 2) epoch (slot_of slots (image_slot epoch))
   pub segment : IsOfEpoch (epoch % 2) epoch (slot_of slots (segment_slot epoch))
 
--- The state after an epoch's image and the records of its segment: there are `count`, and the last batch ends at `end`.
+-- The state after an epoch's image and the `count` records of its segment, whose last batch ends at offset `end`.
 pub record ReadsOne (slots : Slots) (epoch : ℕ) (state : State) (count end : ℕ) : Type 0 where
   pub base : State
   pub image : HoldsImage epoch (slot_of slots (image_slot epoch)) base
@@ -29,7 +29,7 @@ IsLatestEpoch slots epoch =
     × IsOfEpoch (epoch % 2) epoch (slot_of slots (image_slot epoch))
     × IsPassedImage epoch (slot_of slots (image_slot (epoch + 1))))
 
--- What slots encode: the epoch of the image, `count` records in the segments, and the state after them.
+-- The contents that slots encode: the epoch of the image, `count` records in the segments, and the state after them.
 pub record Reads (slots : Slots) (epoch count : ℕ) (state : State) : Type 0 where
   pub latest : IsLatestEpoch slots epoch
   pub base : State

@@ -1,4 +1,4 @@
--- What an open store is between calls.
+-- An open store between calls.
 use Rattle.std.specs.Prelude.{◌≡◌, List, length}
 use Rattle.codes.specs.StoreVersion.{current}
 use Rattle.codes.specs.declared.store_version.StoreVersion.{StoreVersion}
@@ -13,9 +13,8 @@ use Rattle.slot_steps.specs.Steps.{segment_slot}
 use Rattle.store_layout.specs.Standing.{InOne}
 use Rattle.recover.specs.AtRest.{IsAtRest}
 
--- All of the disk is synced. It holds the image of the epoch in use and that epoch's segment, of this version, with
--- this many records and one closed gate after them, and the state is the one after them. The other slots are passed
--- over.
+-- The disk is synced. It holds the image of the epoch in use and its segment of this version, with this many records
+-- and a closed gate after them. The state is that after the records. The other slots are ignored.
 pub record IsKeptIn (version : StoreVersion) (disk : View) (segment : Segment) (state : State) : Type 0 where
   pub at_rest : IsAtRest disk
   pub base : State
@@ -25,6 +24,6 @@ pub record IsKeptIn (version : StoreVersion) (disk : View) (segment : Segment) (
   pub run : Run base records state
   pub counted : segment.records ≡ length records
 
--- and what a server goes on from
+-- the same with the current version: a server can continue from it
 abbrev pub IsKept : View → Segment → State → Type 0
 IsKept = IsKeptIn current

@@ -1,11 +1,11 @@
--- What a clause sees of an opened store.
+-- The value of an opened store in contracts.
 use Rattle.std.specs.Prelude.{ℕ, refl}
 use Rattle.std.specs.Coded.{Coded, code_by, coded×, coded_ℕ}
 use Rattle.ipc_model.specs.state.State.{State}
 use Rattle.ipc_model.specs.state.StateCode.{state_code}
 use Rattle.journal.specs.declared.segment.Segment.{Segment}
 
--- the state that it stands for, its disk, and the segment in use
+-- the state of an opened store, its disk, and the segment in use
 pub record OpenedValue (D : Type 0) : Type 0 where
   pub kernel : State
   pub disk : D

@@ -1,4 +1,4 @@
--- What functions that open or read a store come to.
+-- The outcomes of functions that open or read a store.
 use Rattle.std.specs.Prelude.{◌≡◌, ◌⊎◌, ℕ, Result, Err, IfOk, IsErrOf, OnErr, OnOk}
 use Rattle.disk.specs.Moments.{View, MayLeave, Passes, one_more}
 use Rattle.disk.specs.Slots.{Slots}
@@ -12,14 +12,14 @@ use Rattle.store_layout.specs.Gates.{HaveLastGates}
 use Rattle.recover.specs.Crashing.{StandForSame}
 use Rattle.recover.specs.Kept.{IsKept}
 
--- The device's count of failed calls grows by one at the fault `Device`, and stays otherwise.
+-- The device's count of failed calls grows by one at the fault `Device`, and is unchanged otherwise.
 pub record CountsDevice {T : Type 0} (before now : ℕ) (result : Result T StoreFault) : Type 0 where
   pub quiet : OnOk result (now ≡ before)
   pub still : OnErr result ((result ≡ Err Device) ⊎ (now ≡ before))
   pub device : IsErrOf result Device → now ≡ one_more before
 
--- What opening a store comes to: at `Ok` the state that its slots stood for, of which the disk is then kept. A fault
--- that isn't the device's leaves the slots as they were, and what a crash leaves of them.
+-- The outcome of opening a store. At `Ok` it is the state recovered from the slots, and the disk is that of an open
+-- store with this state. A fault that isn't the device's leaves the slots and the contents after a crash unchanged.
 pub record Opens (old new : View) (result : Result (State × Segment) StoreFault) : Type 0 where
   pub state : IfOk result (λ r. Recovered (as_written old.seen) r.0)
   pub kept : IfOk result (λ r. IsKept new r.1 r.0)
@@ -30,7 +30,7 @@ pub record Opens (old new : View) (result : Result (State × Segment) StoreFault
 abbrev pub StandForNone : Slots → Type 0
 StandForNone slots = (state : State) → Recovered (as_written slots) state → ⊥
 
--- If the last segment has its last gate, whatever a crash leaves since then stands for what the slots stood for.
+-- If the last segment has its last gate, all contents that a crash left since then represent the same states.
 abbrev pub StandsForSameSince : View → View → Type 0
 StandsForSameSince old new = HaveLastGates old.seen → Passes old new (StandForSame old.seen)
 
@@ -39,7 +39,7 @@ abbrev pub OnlyReadingFaults : {T : Type 0} → Result T StoreFault → Type 0
 OnlyReadingFaults result =
     OnErr result ((result ≡ Err Device) ⊎ ((result ≡ Err Damaged) ⊎ (result ≡ Err NoMemory)))
 
--- a fault is one of these three, or `Version`
+-- a fault is `Device`, `Damaged`, `NoMemory` or `Version`
 abbrev pub OnlyOpeningFaults : {T : Type 0} → Result T StoreFault → Type 0
 OnlyOpeningFaults result =
     OnErr result ((result ≡ Err Device)

@@ -1,4 +1,4 @@
--- The records of a segment, replayed.
+-- The replay of a segment's records.
 use Rattle.std.specs.Prelude.{◌≡◌, ℕ, ◌+◌, ◌-◌, ◌≤◌, List, length, drop}
 use Rattle.codes.specs.StoreVersion.{version_number}
 use Rattle.codes.specs.declared.store_version.StoreVersion.{StoreVersion}
@@ -10,8 +10,8 @@ use Rattle.ipc_model.specs.store.Recovery.{version_of}
 use Rattle.ipc_model.specs.store.Store.{AreWithin, EncodesSegment, LeavesAnEpoch}
 use Rattle.journal.specs.Reading.{Place, EncodesFrom}
 
--- The records that a segment of a version encodes from this place on lead from one state to another. By then `count`
--- records are read, and the last batch ends at `end`.
+-- The records that a segment of a version encodes from this place on lead from one state to another. After them `count`
+-- records were read in all, and the last batch ends at offset `end`.
 pub record ReplaysFrom (version : StoreVersion) (segment : List ℕ) (place : Place) (old new : State)
     (count end : ℕ) : Type 0 where
   pub records : List Record
@@ -20,8 +20,8 @@ pub record ReplaysFrom (version : StoreVersion) (segment : List ℕ) (place : Pl
   pub run : Run old records new
   pub counted : count ≡ place.number + length records
 
--- The records of an epoch's segment, after its header, lead from one state to another: there are `count`, and the last
--- batch ends at `end`. The header says the version.
+-- The `count` records of an epoch's segment, after its header, lead from one state to another, and the last batch ends
+-- at offset `end`. The header contains the version.
 pub record ReplaysAll (epoch : ℕ) (segment : List ℕ) (old new : State) (count end : ℕ) : Type 0 where
   pub version : StoreVersion
   pub says : version_of segment ≡ version_number version
@@ -34,7 +34,7 @@ pub record ReplaysAll (epoch : ℕ) (segment : List ℕ) (old new : State) (coun
   pub beyond : 16 ≤ end
   pub inside : end ≤ length segment
 
--- no records that an epoch's segment encodes lead on from this state
+-- no list of records that an epoch's segment encodes is a run from this state
 abbrev pub ReplaysNone : ℕ → List ℕ → State → Type 0
 ReplaysNone epoch segment state =
     (records : List Record) (new : State) → EncodesSegment epoch segment records → Run state records new → ⊥

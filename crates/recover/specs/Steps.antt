@@ -1,2 +1,2 @@
--- What is known of the machine's steps, passed on to the crates above.
+-- Re-exports of facts about the machine's steps, for crates above.
 pub use Rattle.kernel.specs.Unrecorded.{unrecorded_step}

@@ -1,4 +1,4 @@
--- A store in use that was read, and what is made of it if its segment is of version 1.
+-- A store in use that was read, and its upgrade if its segment is of version 1.
 use Rattle.std.specs.Prelude.{◌≡◌, ℕ, ◌+◌, ◌%◌, ◌^◌, ◌<◌, Option, None, Some}
 use Rattle.checkpoint.specs.Images.{ImageValue, open_image, unwritten}
 use Rattle.codes.specs.StoreVersion.{version_number}
@@ -15,23 +15,23 @@ use Rattle.store_layout.specs.Standing.{InOne}
 use Rattle.recover.specs.AtRest.{IsAtRest}
 use Rattle.recover.specs.Replayed.{ReplaysAll}
 
--- The image that the version of an epoch's segment asks for: none, if it is the current one; of version 1, the next
--- epoch's, of this state.
+-- The image that the version of an epoch's segment requires: for version 1 the next epoch's, with this state, and none
+-- for the current version.
 abbrev pub IsUpgradeOf : StoreVersion → ℕ → State → Option ImageValue → Type 0
 IsUpgradeOf One epoch state image =
     (epoch + 1 < 2 ^ 64) × (image ≡ Some (unwritten (epoch + 1) (image_encoding state)))
     × HoldsImage (epoch + 1) (open_image (epoch + 1) (image_encoding state)) state
 IsUpgradeOf Two epoch state image = image ≡ None
 
--- What was read of a store that goes on in an epoch: after the image, `count` records in its segment lead to the state,
--- and the last batch ends at `end`. The other slots are passed over.
+-- A store that was read in order to continue in an epoch. The `count` records of its segment lead from the image to the
+-- state, and the last batch ends at offset `end`. The other slots are ignored.
 pub record IsRead (slots : Slots) (epoch : ℕ) (state : State) (count end : ℕ) : Type 0 where
   pub base : State
   pub header : IsOfEpoch (epoch % 2) epoch (slot_of slots (segment_slot epoch))
   pub replays : ReplaysAll epoch (slot_of slots (segment_slot epoch)) base state count end
   pub one : InOne slots epoch base replays.records
 
--- A store that was read, with the image that its segment's version asks for; its segment isn't ended yet.
+-- A store that was read, with the image that its segment's version requires. Its segment isn't ended yet.
 pub record IsToEnd (disk : View) (state : State) (segment : Segment) (end : ℕ) (upgrade : Option ImageValue)
     : Type 0 where
   pub at_rest : IsAtRest disk

@@ -1,4 +1,4 @@
-// What a store in use holds, read from its slots.
+// Reads a store in use from its slots.
 ghost use Rattle.std.specs.Prelude.{◌≡◌, ◌⊎◌, List, drop, Err, IfOk, IsErrOf, OnErr, OnOk, MatchBool};
 ghost use Rattle.disk.specs.Moments.{CountsFailure, MayLeave, Passes, ReadsOnly};
 ghost use Rattle.disk.specs.Slots.{slot_of};
@@ -25,10 +25,10 @@ use slot_steps::{CLOSED_GATE, OPEN_GATE, SEGMENT_HEADER, image_slot};
 use std::alloc::Global;
 use store_fault::StoreFault;
 
-/// The state after an epoch's image and the records of its segment, how many they are, where the last batch ends, and
-/// the segment's version.
+/// Returns the state after an epoch's image and the records of its segment, the number of records, the offset at which
+/// the last batch ends, and the segment's version.
 ///
-/// `Damaged`: the image isn't that of a lawful state, or the records are no run from it.
+/// `Damaged`: the image isn't that of a lawful state, or the records aren't a run from it.
 pub(crate) fn read_epoch<D: Disk>(
     alloc: Global,
     disk: &mut D,
@@ -51,7 +51,7 @@ pub(crate) fn read_epoch<D: Disk>(
     replay_segment(alloc, base, disk, epoch)
 }
 
-/// Whether segment 0 has an open batch.
+/// Returns true if segment 0 has an open batch.
 fn has_batch<D: Disk>(disk: &mut D) -> Result<bool, DiskFault>
     ensures batch { D.honest → IfOk result
         (λ has. MatchBool has (IsClosed (drop 16 (D.view disk.old).seen.segment0) → ⊥)
@@ -65,9 +65,9 @@ fn has_batch<D: Disk>(disk: &mut D) -> Result<bool, DiskFault>
     Ok(gate[0] == OPEN_GATE)
 }
 
-/// Tests that a store without an image was never in use: segment 0, if it is open, has no batch.
+/// Checks that a store without an image was never in use: segment 0 has no batch if it is open.
 ///
-/// `Damaged`: it has one.
+/// `Damaged`: it has a batch.
 pub(crate) fn have_no_batch<D: Disk>(disk: &mut D, segment: Header) -> Result<(), StoreFault>
     requires unused { D.honest → IsUnused (D.view disk.old).seen }
     requires says { D.honest → Says 16 (D.view disk.old).seen.segment0 segment }

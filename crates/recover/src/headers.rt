@@ -1,4 +1,4 @@
-// What the header of a slot says.
+// The headers of slots.
 ghost use Rattle.std.specs.Prelude.{◌≡◌, ◌≢◌, ◌↔◌, ◌≤◌, ◌%◌, ◌++◌, ℕ, List, IsTrue, IfOk, IfSome, IfNone, IsErrOf, length};
 ghost use Rattle.disk.specs.Slots.{slot_of};
 ghost use Rattle.disk.specs.Moments.{CountsFailure, MayLeave, Passes, ReadsOnly};
@@ -14,16 +14,16 @@ use slot_steps::{IMAGE_HEADER, OPEN_GATE, SEGMENT_HEADER};
 use store_fault::StoreFault;
 use words::take_long_word;
 
-/// What the header of a slot says.
+/// The header of a slot.
 #[derive(Clone, Copy, PartialEq, Eq)]
 pub(crate) enum Header {
     /// The slot isn't open.
     Closed,
-    /// It is open, and of this epoch.
+    /// The slot is open, with this epoch.
     Open(u64),
-    /// It is open, and says a version that there isn't.
+    /// The slot is open, with an unknown version.
     OtherVersion,
-    /// It is open, and its header isn't one that a server writes.
+    /// The slot is open, but no server writes such a header.
     Unreadable,
 }
 
@@ -36,14 +36,14 @@ pub(crate) struct Headers {
     pub(crate) segment1: Header,
 }
 
-/// Whether a slot holds its whole header and its gate is open.
+/// Returns true if a slot holds its whole header and its gate is open.
 pub(crate) fn is_open(slot: &[u8], header: usize) -> bool
     ensures { IsTrue result ↔ IsOpen header slot.now }
 {
     header <= slot.len() && slot.first() == Some(&OPEN_GATE)
 }
 
-/// Whether a slot is open and says a version that there isn't.
+/// Returns true if a slot is open and its version is unknown.
 fn is_other_version(slot: &[u8], header: usize) -> bool
     requires { 2 ≤ header }
     ensures { IsTrue result ↔ HasOtherVersion header slot.now }
@@ -54,7 +54,7 @@ fn is_other_version(slot: &[u8], header: usize) -> bool
     version_in(slot).is_none()
 }
 
-/// The version that a header says, if there is such a one.
+/// Returns the version in a header, or `None` if it is unknown.
 fn version_in(slot: &[u8]) -> Option<StoreVersion>
     requires { 2 ≤ length slot.now }
     ensures known { IfSome result (λ version. version_number version ≡ version_of slot.now) }
@@ -63,7 +63,7 @@ fn version_in(slot: &[u8]) -> Option<StoreVersion>
     StoreVersion::from_number(slot[1])
 }
 
-/// What stands after the front of a header of a version, if there is one.
+/// Returns the bytes after the front of a header of this version, or `None` if the front isn't one.
 fn after_version(slot: &[u8], version: StoreVersion) -> Option<&[u8]>
     ensures found { IfSome result (λ rest. slot.now ≡ version_front version ++ rest.now) }
     ensures none { IfNone result ((rest : List ℕ) → slot.now ≢ version_front version ++ rest) }
@@ -72,7 +72,7 @@ fn after_version(slot: &[u8], version: StoreVersion) -> Option<&[u8]>
     slot.strip_prefix(&front)
 }
 
-/// What stands after the front of a header of either version, if there is one.
+/// Returns the bytes after the front of a header of either version, or `None` if the front isn't one.
 fn after_front(slot: &[u8]) -> Option<&[u8]>
     ensures found { IfSome result
         (λ rest. (version : StoreVersion) × (slot.now ≡ version_front version ++ rest.now)) }
@@ -84,7 +84,7 @@ fn after_front(slot: &[u8]) -> Option<&[u8]>
     }
 }
 
-/// The epoch of a header of a version, if there is one.
+/// Returns the epoch in a header of either version, or `None` if it isn't one.
 fn epoch_of(slot: &[u8]) -> Option<u64>
     ensures found { IfSome result (λ epoch. IsOfEpoch (epoch % 2) epoch slot.now) }
     ensures none { IfNone result (16 ≤ length slot.now → (number epoch : ℕ) → IsOfEpoch number epoch slot.now → ⊥) }
@@ -94,7 +94,7 @@ fn epoch_of(slot: &[u8]) -> Option<u64>
     Some(epoch)
 }
 
-/// What the header of `size` bytes says that these bytes begin with.
+/// Decodes the header of `size` bytes at the front of these bytes.
 fn header_in(slot: &[u8], size: usize) -> Header
     requires { 16 ≤ size }
     ensures { Says size slot.now result }
@@ -111,7 +111,7 @@ fn header_in(slot: &[u8], size: usize) -> Header
     }
 }
 
-/// What the header of a slot says.
+/// Reads the header of a slot.
 fn read_header<D: Disk>(disk: &mut D, slot: Slot, size: usize) -> Result<Header, DiskFault>
     requires least { 16 ≤ size }
     requires most { size ≤ 24 }
@@ -125,7 +125,7 @@ fn read_header<D: Disk>(disk: &mut D, slot: Slot, size: usize) -> Result<Header,
     Ok(header_in(&front[..count], size))
 }
 
-/// What the headers of the four slots say.
+/// Reads the headers of the four slots.
 pub(crate) fn read_headers<D: Disk>(disk: &mut D) -> Result<Headers, DiskFault>
     ensures said { D.honest → IfOk result (λ h. SayAll (D.view disk.old).seen h.image0 h.image1 h.segment0 h.segment1) }
     ensures seen { D.honest → (D.view disk.new).seen ≡ (D.view disk.old).seen }
@@ -144,10 +144,10 @@ pub(crate) fn read_headers<D: Disk>(disk: &mut D) -> Result<Headers, DiskFault>
     })
 }
 
-/// The version of an open slot, which its header says. It is read once more, since most of what is asked of a header
-/// has nothing to do with it.
+/// Reads the version of an open slot from its header. This is a second read, because few readers of headers need the
+/// version.
 ///
-/// `Damaged`: there is no such version.
+/// `Damaged`: the version is unknown.
 pub(crate) fn read_version<D: Disk>(disk: &mut D, slot: Slot) -> Result<StoreVersion, StoreFault>
     requires { D.honest → 16 ≤ length (slot_of (D.view disk.old).seen slot) }
     ensures says { D.honest → IfOk result

@@ -1,4 +1,4 @@
-//! Opening a store: what its slots stand for, and the repair of their ends.
+//! Opens a store: recovers the state from its slots, and repairs their ends.
 #![tactic(auto)]
 
 mod finding;

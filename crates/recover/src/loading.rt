@@ -1,4 +1,4 @@
-// The state whose image stands in a slot.
+// Loads the state whose image is in a slot.
 ghost use Rattle.std.specs.Prelude.{◌≡◌, ◌⊎◌, ◌↔◌, ◌^◌, ◌<◌, ◌++◌, ℕ, All, List, IsTrue, IfOk, OnErr, IsErrOf, drop, length};
 ghost use Rattle.disk.specs.Moments.{CountsFailure, MayLeave, Passes, ReadsOnly};
 ghost use Rattle.disk.specs.Slots.{slot_of};
@@ -21,7 +21,7 @@ use std::alloc::Global;
 use store_fault::StoreFault;
 use words::take_long_word;
 
-/// How many bytes an image's encoding has, as its header says.
+/// Reads the length in bytes of an image's encoding from its header.
 fn encoding_length<D: Disk>(disk: &mut D, slot: Slot) -> Result<u64, DiskFault>
     requires { D.honest → IsOpen 24 (slot_of (D.view disk.old).seen slot) }
     ensures fits { IfOk result (λ size. size < 2 ^ 64) }
@@ -39,7 +39,7 @@ fn encoding_length<D: Disk>(disk: &mut D, slot: Slot) -> Result<u64, DiskFault>
     }
 }
 
-/// The encoding in an image.
+/// Reads the encoding in an image.
 ///
 /// `Damaged`: the slot ends within it.
 fn read_encoding<D: Disk>(alloc: Global, disk: &mut D, slot: Slot) -> Result<Vec<u8>, StoreFault>
@@ -62,16 +62,16 @@ fn read_encoding<D: Disk>(alloc: Global, disk: &mut D, slot: Slot) -> Result<Vec
     Ok(encoding)
 }
 
-/// Whether each port's queue has a limit of a version.
+/// Returns true if the queue limit of each port is allowed in this version.
 fn have_limits(version: StoreVersion, ports: &[LivePort]) -> bool
     ensures { IsTrue result ↔ All (HasLimit version) ports.now }
 {
     ports.iter().all(|port| is_limit(version, port.state.limit))
 }
 
-/// The state that these bytes encode in a version.
+/// Decodes a state of this version.
 ///
-/// `Damaged`: they encode no lawful state.
+/// `Damaged`: the bytes encode no lawful state.
 fn state_of(alloc: Global, version: StoreVersion, encoding: &[u8]) -> Result<Kernel, StoreFault>
     ensures image { IfOk result (λ kernel. IsImageIn version encoding.now kernel) }
     ensures damaged { IsErrOf result StoreFault.Damaged → (state : State)
@@ -97,9 +97,9 @@ fn state_of(alloc: Global, version: StoreVersion, encoding: &[u8]) -> Result<Ker
     }
 }
 
-/// The state whose image an open slot of a version holds.
+/// Returns the state whose image is in an open slot of this version.
 ///
-/// `Damaged`: it holds no image of a lawful state.
+/// `Damaged`: the slot holds no image of a lawful state.
 fn load_image_in<D: Disk>(
     alloc: Global,
     disk: &mut D,
@@ -120,9 +120,9 @@ fn load_image_in<D: Disk>(
     Ok(kernel)
 }
 
-/// The state whose image an open slot holds.
+/// Returns the state whose image is in an open slot.
 ///
-/// `Damaged`: it holds no image of a lawful state, or none of a version that there is.
+/// `Damaged`: the slot holds no image of a lawful state, or one of an unknown version.
 pub(crate) fn load_image<D: Disk>(
     alloc: Global,
     disk: &mut D,

@@ -1,4 +1,4 @@
-//! What a store holds, as it is found.
+//! Reads a store without opening it.
 ghost use Rattle.std.specs.Prelude.{◌≡◌, ◌+◌, ◌<◌, IfOk, IsErrOf, OnOk};
 ghost use Rattle.disk.specs.Moments.{ReadsOnly, one_more};
 ghost use Rattle.ipc_model.specs.store.Recovery.{IsDamaged, IsOtherVersion};
@@ -19,18 +19,18 @@ use kernel::{Kernel, Snapshot};
 use std::alloc::{AllocError, Global};
 use store_fault::StoreFault;
 
-/// What a store holds.
+/// The contents of a store.
 #[derive(Drop)]
 pub struct Looked {
-    /// The epoch of its image; 0 for a new store.
+    /// The epoch of its image, or 0 for a new store.
     pub epoch: u64,
-    /// How many records its segments hold.
+    /// The number of records in its segments.
     pub records: u64,
     /// The state after them.
     pub snapshot: Snapshot,
 }
 
-/// The state of a store that was never in use.
+/// Returns the state of a store that was never in use.
 fn look_new<D: Disk>(alloc: Global, disk: &mut D, segment0: Header) -> Result<Kernel, StoreFault>
     requires unused { D.honest → IsUnused (D.view disk.old).seen }
     requires says { D.honest → Says 16 (D.view disk.old).seen.segment0 segment0 }
@@ -45,7 +45,7 @@ fn look_new<D: Disk>(alloc: Global, disk: &mut D, segment0: Header) -> Result<Ke
     Ok(kernel)
 }
 
-/// The state of a store in use, and how many records its segments hold.
+/// Returns the state of a store in use, and the number of records in its segments.
 fn look_in_use<D: Disk>(
     alloc: Global,
     disk: &mut D,
@@ -68,7 +68,7 @@ fn look_in_use<D: Disk>(
     Ok((kernel, first.saturating_add(next)))
 }
 
-/// The epoch of a store's image, how many records its segments hold, and the state after them.
+/// Returns the epoch of a store's image, the number of records in its segments, and the state after them.
 fn find<D: Disk>(alloc: Global, disk: &mut D) -> Result<(u64, u64, Kernel), StoreFault>
     ensures reads { D.honest → IfOk result (λ r. Reads (D.view disk.old).seen r.0 r.1 r.2) }
     ensures reads_only { D.honest → ReadsOnly (D.view disk.old) (D.view disk.new) }
@@ -92,7 +92,7 @@ fn find<D: Disk>(alloc: Global, disk: &mut D) -> Result<(u64, u64, Kernel), Stor
     }
 }
 
-/// A state as plain rows; the kernel is consumed.
+/// Returns a kernel's state as plain rows. The kernel is consumed.
 fn into_rows(alloc: Global, kernel: Kernel) -> Result<Snapshot, AllocError>
     ensures { IfOk result (λ rows. rows ≡ snapshot_of kernel) }
 {
@@ -101,10 +101,10 @@ fn into_rows(alloc: Global, kernel: Kernel) -> Result<Snapshot, AllocError>
     rows
 }
 
-/// Looks at a store and writes nothing: neither its contents nor its post-crash contents change.
+/// Reads a store without writing: neither its contents nor the contents after a crash change.
 ///
-/// `Device`: the device failed. `Damaged`: the slots are not as a server leaves them. `Version`: an open slot is of
-/// another version. `NoMemory`: out of memory.
+/// `Device`: the device failed. `Damaged`: the slots aren't as a server leaves them. `Version`: an open slot has an
+/// unknown version. `NoMemory`: out of memory.
 pub fn look<D: Disk>(alloc: Global, disk: &mut D) -> Result<Looked, StoreFault>
     ensures state { IfOk result (λ look. IsLook D.honest (D.view disk.old).seen look) }
     ensures reads_only { D.honest → ReadsOnly (D.view disk.old) (D.view disk.new) }

@@ -1,4 +1,4 @@
-// What opening a store writes.
+// The writes of opening a store.
 ghost use Rattle.std.specs.Prelude.{◌≡◌, ◌+◌, ◌≤◌, ◌<◌, ◌++◌, ◌∷◌, [], length, take, OnOk, IfOk};
 ghost use Rattle.disk.specs.Slots.{slot_of, with_slot};
 ghost use Rattle.disk.specs.Moments.{CountsFailure, Follows, IsSynced, MayLeave, Passes};
@@ -11,7 +11,7 @@ use disk::{Disk, DiskFault, Slot};
 use journal::{Segment, roll_close, roll_head, roll_open};
 use slot_steps::CLOSED_GATE;
 
-/// Syncs the four slots, so that what is read next is what a crash leaves.
+/// Syncs the four slots, so that later reads return what a crash would leave.
 pub(crate) fn sync_all<D: Disk>(disk: &mut D) -> Result<(), DiskFault>
     ensures seen { D.honest → (D.view disk.new).seen ≡ (D.view disk.old).seen }
     ensures time { D.honest → Passes (D.view disk.old) (D.view disk.new) (MayLeave (D.view disk.old)) }
@@ -24,7 +24,7 @@ pub(crate) fn sync_all<D: Disk>(disk: &mut D) -> Result<(), DiskFault>
     disk.sync(Slot::Segment1)
 }
 
-/// Makes an epoch's segment, without a record.
+/// Creates an epoch's segment without records.
 pub(crate) fn make_segment<D: Disk>(disk: &mut D, epoch: u64) -> Result<Segment, DiskFault>
     ensures made { D.honest → OnOk result
         ((D.view disk.new).seen ≡ with_slot (D.view disk.old).seen (slot_of_epoch epoch) (empty_segment epoch)) }
@@ -40,14 +40,14 @@ pub(crate) fn make_segment<D: Disk>(disk: &mut D, epoch: u64) -> Result<Segment,
     roll_open(disk, epoch)
 }
 
-/// Ends a segment after its last batch, which ends at this place: with the closed gate that stands there, or with a new
-/// one if the slot ends there.
+/// Ends a segment at offset `end`, after its last batch: with the closed gate that is there, or with a new one if the
+/// slot ends there.
 pub(crate) fn end_segment<D: Disk>(disk: &mut D, slot: Slot, end: u64) -> Result<(), DiskFault>
     requires { D.honest → end ≤ length (slot_of (D.view disk.old).seen slot) }
     ensures ended { D.honest → OnOk result ((D.view disk.new).seen ≡ with_slot (D.view disk.old).seen slot
         (take (end + 1) (slot_of (D.view disk.old).seen slot ++ closed_gate ∷ []))) }
     ensures rest { D.honest → IsAtRest (D.view disk.old) → OnOk result (IsAtRest (D.view disk.new)) }
-    // If the gate stands there already, a crash takes nothing from what stands up to it.
+    // If the gate is there already, a crash keeps all bytes up to it.
     ensures any_moment { D.honest → IsAtRest (D.view disk.old) → end < length (slot_of (D.view disk.old).seen slot)
         → Passes (D.view disk.old) (D.view disk.new) (DiffersIn (D.view disk.old).seen slot
         (λ after. take (end + 1) after ≡ take (end + 1) (slot_of (D.view disk.old).seen slot))) }

@@ -33,7 +33,7 @@ use std::alloc::{AllocError, Global};
 use std::marker::Model;
 use store_fault::StoreFault;
 
-/// A store that is open: the state that it stands for, its disk, and the segment in use, from which it goes on.
+/// An open store: its state, its disk and the segment in use, which a server continues.
 #[derive(Drop)]
 pub struct Opened<D: Disk> {
     pub kernel: Kernel,
@@ -51,11 +51,11 @@ impl<D: Disk> Model for Opened<D> {
 
     ghost view = { λ o. record { kernel = o.kernel; disk = o.disk; segment = o.segment } };
 
-    // The holder of an opened store can go on from it.
+    // A server can continue from an opened store.
     ghost invariant = { λ o. D.honest → IsKept (D.view o.disk) o.segment o.kernel };
 }
 
-/// The image that an epoch begins with, for this state.
+/// Encodes the image with which an epoch begins, for this state.
 fn image_of(alloc: Global, epoch: u64, kernel: &Kernel) -> Result<Image, AllocError>
     ensures image { IfOk result (λ image. image ≡ unwritten epoch (image_encoding kernel.now)) }
     ensures holds { OnOk result (HoldsImage epoch (open_image epoch (image_encoding kernel.now)) kernel.now) }
@@ -68,7 +68,7 @@ fn image_of(alloc: Global, epoch: u64, kernel: &Kernel) -> Result<Image, AllocEr
     Ok(image)
 }
 
-/// Makes a new store: its segment first, and once that is whole, its image. Then it returns a value.
+/// Creates a new store: first its segment and, once that is whole, its image. Then returns `value`.
 fn write_first<D: Disk, T: Drop>(
     disk: &mut D,
     image: &Image,
@@ -111,8 +111,8 @@ fn begin<D: Disk>(
     Ok((kernel, segment))
 }
 
-/// A state, and the image of the next epoch, if the epoch's segment is of version 1: then the store goes on in that
-/// next epoch, whose slots are of the current version. The image is made before anything is written.
+/// Returns the state and, if the epoch's segment is of version 1, the image of the next epoch. The store then continues
+/// in that epoch, whose slots have the current version. The image is encoded before anything is written.
 fn with_upgrade(
     alloc: Global,
     kernel: Kernel,
@@ -132,8 +132,8 @@ fn with_upgrade(
     }
 }
 
-/// Ends a segment in use after its last batch, which ends at this place. If it is of version 1, it stays as it is: the
-/// next epoch's segment is made, which is empty, and then its image, and that segment is ended.
+/// Ends a segment in use at offset `end`, after its last batch. A segment of version 1 stays unchanged: instead the
+/// next epoch's empty segment is created, then its image, and that segment is ended.
 fn end_store<D: Disk>(
     disk: &mut D,
     kernel: Kernel,
@@ -164,7 +164,8 @@ fn end_store<D: Disk>(
     Ok((kernel, next))
 }
 
-/// Goes on in an epoch, whose segment is ended after its batches, or in the next one if that segment is of version 1.
+/// Continues in an epoch, whose segment is ended after its batches, or in the next epoch if that segment is of version
+/// 1.
 fn go_on<D: Disk>(alloc: Global, disk: &mut D, epoch: u64) -> Result<(Kernel, Segment), StoreFault>
     requires rest { D.honest → IsAtRest (D.view disk.old) }
     requires used { D.honest → IsInUse (D.view disk.old).seen epoch false }
@@ -181,8 +182,8 @@ fn go_on<D: Disk>(alloc: Global, disk: &mut D, epoch: u64) -> Result<(Kernel, Se
     Ok((kernel, segment))
 }
 
-/// Goes on in the next epoch, whose segment follows: its image is made of the state before that segment, and written.
-/// Then it is as with the segment of an epoch.
+/// Continues in the next epoch, whose segment is open but whose image isn't. Writes that image, with the state before
+/// the segment, and then continues in that epoch.
 fn go_on_next<D: Disk>(
     alloc: Global,
     disk: &mut D,
@@ -211,7 +212,7 @@ fn go_on_next<D: Disk>(
     Ok((kernel, segment))
 }
 
-/// A state, and the image of an epoch that begins with it.
+/// Returns the state, and the image of the epoch that begins with it.
 fn with_image(alloc: Global, kernel: Kernel, epoch: u64) -> Result<(Kernel, Image), AllocError>
     ensures base { IfOk result (λ r. r.0 ≡ kernel) }
     ensures image { IfOk result (λ r. r.1 ≡ unwritten epoch (image_encoding kernel)) }
@@ -221,7 +222,7 @@ fn with_image(alloc: Global, kernel: Kernel, epoch: u64) -> Result<(Kernel, Imag
     both(kernel, image)
 }
 
-/// What the headers of a disk's slots say, once all that was written is on it.
+/// Syncs the disk, and reads the headers of its slots.
 fn read_synced<D: Disk>(disk: &mut D) -> Result<Headers, DiskFault>
     ensures said { D.honest → IfOk result (λ h. SayAll (D.view disk.old).seen h.image0 h.image1 h.segment0 h.segment1) }
     ensures seen { D.honest → (D.view disk.new).seen ≡ (D.view disk.old).seen }
@@ -234,7 +235,7 @@ fn read_synced<D: Disk>(disk: &mut D) -> Result<Headers, DiskFault>
     Ok(headers)
 }
 
-/// The state that a store stands for, and the segment in use.
+/// Recovers the state of a store, and returns it with the segment in use.
 fn load<D: Disk>(alloc: Global, disk: &mut D) -> Result<(Kernel, Segment), StoreFault>
     ensures opened { D.honest → Opens (D.view disk.old) (D.view disk.new) result }
     ensures version { D.honest → IsErrOf result StoreFault.Version
@@ -259,12 +260,12 @@ fn load<D: Disk>(alloc: Global, disk: &mut D) -> Result<(Kernel, Segment), Store
     }
 }
 
-/// Opens a store. A new one gets its first segment and image. From an existing one the state is read; a checkpoint that
-/// was half done is finished, and the segment in use is ended after its last batch. If that is of version 1, the store
-/// goes on in the next epoch, with an image and a segment of the current version. At a fault the disk comes back.
+/// Opens a store. A new store gets its first segment and image. For an existing one it reads the state, finishes a
+/// checkpoint that was interrupted, and ends the segment in use after its last batch. If that segment is of version 1,
+/// the store continues in the next epoch, with an image and a segment of the current version. A fault returns the disk.
 ///
-/// `Device`: the device failed. `Damaged`: the slots are not as a server leaves them. `Version`: an open slot says
-/// a version that there isn't. `NoMemory`: out of memory.
+/// `Device`: the device failed. `Damaged`: the slots aren't as a server leaves them. `Version`: an open slot has an
+/// unknown version. `NoMemory`: out of memory.
 pub fn open<D: Disk>(alloc: Global, disk: D) -> Result<Opened<D>, (StoreFault, D)>
     ensures state { D.honest → IfOk result (λ opened. Recovered (as_written (D.view disk).seen) opened.kernel) }
     ensures version { D.honest → IfErr result
@@ -277,25 +278,25 @@ pub fn open<D: Disk>(alloc: Global, disk: D) -> Result<Opened<D>, (StoreFault, D
     ensures still { IfErr result (λ fault. fault.0 ≢ StoreFault.Device → D.failed_calls fault.1 ≡ D.failed_calls disk) }
     ensures device { IfErr result (λ fault. fault.0 ≡ StoreFault.Device
         → D.failed_calls fault.1 ≡ one_more (D.failed_calls disk)) }
-    // A fault that isn't the device's leaves the slots as they were, and their post-crash contents too.
+    // A fault that isn't the device's leaves the slots and the contents after a crash unchanged.
     ensures unchanged { D.honest → IfErr result
         (λ fault. fault.0 ≢ StoreFault.Device → (D.view fault.1).seen ≡ (D.view disk).seen) }
     ensures untouched { D.honest → IfErr result (λ fault. fault.0 ≢ StoreFault.Device
         → Passes (D.view disk) (D.view fault.1) (MayLeave (D.view disk))) }
-    // Whatever a crash leaves, at any moment of the call and also if it fails, might have been left before, or it
-    // stands for what the store stood for, with its last gate. Nothing is said of slots without their last gate, which
-    // no server leaves: a crash within the write of that gate could leave an open one.
+    // A crash at any moment of the call, also if the call fails, leaves slots that it might have left before the call,
+    // or slots that represent the store's state and have their last gate. This promises nothing about slots without
+    // their last gate, which no server leaves: a crash during the write of that gate could leave an open one.
     ensures any_moment { D.honest → HaveLastGates (D.view disk).seen
         → IfOk result (λ opened. Passes (D.view disk) (D.view opened.disk) (LeavesSame (D.view disk))) }
     ensures any_moment_of_fault { D.honest → HaveLastGates (D.view disk).seen
         → IfErr result (λ fault. Passes (D.view disk) (D.view fault.1) (LeavesSame (D.view disk))) }
-    // What is left at the end stands for the state, with its last gate whether or not it had one before, and a caller
-    // that goes on from there knows the slots.
+    // At the end all possible contents after a crash represent the state, with their last gate, even if it was missing
+    // before. A server knows the slots from which it continues.
     ensures stands { D.honest → IfOk result (λ opened. (c : Slots) → MayLeave (D.view opened.disk) c
         → StandForState opened.kernel c) }
     ensures kept { D.honest → IfOk result (λ opened. IsKept (D.view opened.disk) opened.segment opened.kernel) }
-    // What slots stand for is what opening them returns. A store that stands for a state isn't reported as damaged or
-    // of another version.
+    // Opening returns the state that the slots represent. A store with a state isn't reported as damaged or as of
+    // another version.
     ensures same { D.honest → IfOk result
         (λ opened. (state : State) → Recovered (as_written (D.view disk).seen) state → opened.kernel ≡ state) }
     ensures opens { D.honest → IfErr result (λ fault. (state : State) → Recovered (as_written (D.view disk).seen) state

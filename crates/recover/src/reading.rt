@@ -24,7 +24,7 @@ use slot_steps::{SEGMENT_HEADER, segment_slot};
 use std::alloc::Global;
 use store_fault::StoreFault;
 
-/// Whether a port's queue may have this limit in a slot of a version.
+/// Returns true if a slot of this version may give a port's queue this limit.
 pub(crate) fn is_limit(version: StoreVersion, limit: u32) -> bool
     ensures { IsTrue result ↔ IsLimitOf version limit }
 {
@@ -34,7 +34,7 @@ pub(crate) fn is_limit(version: StoreVersion, limit: u32) -> bool
     }
 }
 
-/// Whether a segment of a version may have a record of this call.
+/// Returns true if a segment of this version may contain a record of this call.
 fn is_within(version: StoreVersion, call: &Call) -> bool
     ensures { IsTrue result ↔ IsWithin version call.now }
 {
@@ -45,9 +45,9 @@ fn is_within(version: StoreVersion, call: &Call) -> bool
     }
 }
 
-/// The state after a record of a segment of a version.
+/// Returns the state after a record of a segment of this version.
 ///
-/// `Damaged`: the record is no step of the machine, or sets a limit or numbers a call where the version has none such.
+/// `Damaged`: the record is no step of the machine, or sets a limit or numbers a call as the version doesn't allow.
 /// `NoMemory`: out of memory.
 fn replay_one(version: StoreVersion, kernel: Kernel, entry: Record) -> Result<Kernel, StoreFault>
     ensures step { IfOk result (λ state. Replays kernel entry state) }
@@ -69,7 +69,7 @@ fn replay_one(version: StoreVersion, kernel: Kernel, entry: Record) -> Result<Ke
     }
 }
 
-/// The state after the records of a segment that are still to be read. Each is replayed as it is read.
+/// Returns the state after the remaining records of a segment, each replayed as it is read.
 ///
 /// `Damaged`: the segment encodes no batches from here on, or a record is no step of the machine. `NoMemory`: out of
 /// memory. `Device`: the device failed.
@@ -101,9 +101,9 @@ fn replay_all<D: Disk>(
     }
 }
 
-/// The version of an epoch's segment, which its header says.
+/// Returns the version in the header of an epoch's segment.
 ///
-/// `Damaged`: there is no such version, or it is version 1 and the epoch the last one.
+/// `Damaged`: the version is unknown, or it is 1 and the epoch is the last possible one.
 fn segment_version<D: Disk>(disk: &mut D, epoch: u64) -> Result<StoreVersion, StoreFault>
     requires { D.honest → 16 ≤ length (slot_of (D.view disk.old).seen (slot_of_segment epoch)) }
     ensures says { D.honest → IfOk result
@@ -123,8 +123,8 @@ fn segment_version<D: Disk>(disk: &mut D, epoch: u64) -> Result<StoreVersion, St
     Ok(version)
 }
 
-/// The state after the records of an epoch's segment, which is of a version, how many they are, and where the last
-/// batch ends.
+/// Returns the state after the records of an epoch's segment of this version, the number of records, and the offset at
+/// which the last batch ends.
 fn replay_segment_in<D: Disk>(
     alloc: Global,
     kernel: Kernel,
@@ -151,8 +151,8 @@ fn replay_segment_in<D: Disk>(
     Ok((kernel, reader.number(), reader.at()))
 }
 
-/// The state after the records of an epoch's segment, how many they are, where the last batch ends, and the segment's
-/// version.
+/// Returns the state after the records of an epoch's segment, the number of records, the offset at which the last batch
+/// ends, and the segment's version.
 pub(crate) fn replay_segment<D: Disk>(
     alloc: Global,
     kernel: Kernel,

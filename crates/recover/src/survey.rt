@@ -1,4 +1,4 @@
-// What the headers of a store's slots say of the store.
+// Classifies a store by the headers of its slots.
 ghost use Rattle.std.specs.Prelude.{◌≡◌, ◌≢◌, ◌⊎◌, ◌+◌, ◌%◌, ◌^◌, ◌<◌, IsTrue, List, Some, None, IfOk, IfSome, IfNone, IsErrOf, OnOk, OnErr, MatchBool};
 ghost use Rattle.disk.specs.Slots.{Slots};
 ghost use Rattle.ipc_model.specs.declared.record.Record.{Record};
@@ -11,18 +11,18 @@ ghost use Rattle.recover.specs.Surveyed.{Adjoins, FitsNext, IsLatestOf, Surveys}
 use crate::headers::{Header, Headers};
 use store_fault::StoreFault;
 
-/// What a store is, by the headers of its slots.
+/// The kind of a store, by the headers of its slots.
 #[derive(Clone, Copy)]
 pub(crate) enum Survey {
-    /// It has no image, and no segment but one of epoch 0.
+    /// No image is open, and no segment except possibly one of epoch 0.
     New,
-    /// It has the image of an epoch and its segment, and perhaps the next segment.
+    /// The image and the segment of an epoch are open, and if `follows`, the next epoch's segment is too.
     InUse { epoch: u64, follows: bool },
 }
 
-/// The epoch of a slot with this number, if it is open.
+/// Returns the epoch of a slot with this number, or `None` if it isn't open.
 ///
-/// `Damaged`: it is open, and of no epoch with this number.
+/// `Damaged`: the slot is open, but not with an epoch that belongs to this number.
 fn epoch_in(header: Header, number: u64) -> Result<Option<u64>, StoreFault>
     ensures open { IfOk result (λ found. IfSome found (λ epoch. (header ≡ Header.Open epoch) × (epoch % 2 ≡ number))) }
     ensures closed { IfOk result (λ found. IfNone found (header ≡ Header.Closed)) }
@@ -36,8 +36,8 @@ fn epoch_in(header: Header, number: u64) -> Result<Option<u64>, StoreFault>
     }
 }
 
-/// Whether the next epoch's segment is open, if the image of an epoch is the latest. The epoch's own segment has to be
-/// open.
+/// Returns true if the next epoch's segment is open, given the epoch of the latest image. The epoch's own segment must
+/// be open.
 fn follows(epoch: u64, own: Option<u64>, other: Option<u64>) -> Result<bool, StoreFault>
     ensures own { OnOk result (own ≡ Some epoch) }
     ensures other { IfOk result (λ follows. MatchBool follows (other ≡ Some (epoch + 1)) (Adjoins epoch other)) }
@@ -56,18 +56,18 @@ fn follows(epoch: u64, own: Option<u64>, other: Option<u64>) -> Result<bool, Sto
     }
 }
 
-/// Which image is the latest, of the slots with both numbers.
+/// The latest image of the two slots.
 #[derive(Clone, Copy)]
 pub(crate) enum Latest {
-    /// None is open.
+    /// No image is open.
     None,
-    /// The one with number 0, of this epoch.
+    /// The image in slot 0, of this epoch.
     First(u64),
-    /// The one with number 1, of this epoch.
+    /// The image in slot 1, of this epoch.
     Second(u64),
 }
 
-/// Which image is the latest.
+/// Returns the latest image, from the epochs of the two slots.
 fn find_latest(first: Option<u64>, second: Option<u64>) -> Latest
     ensures { IsLatestOf first second result }
 {
@@ -85,7 +85,7 @@ fn find_latest(first: Option<u64>, second: Option<u64>) -> Latest
     }
 }
 
-/// A store without an image.
+/// Classifies a store without an image.
 fn survey_new(segment0: Option<u64>, segment1: Option<u64>) -> Result<Survey, StoreFault>
     ensures new { IfOk result (λ survey. survey ≡ Survey.New) }
     ensures first { OnOk result ((segment0 ≡ None) ⊎ (segment0 ≡ Some 0)) }
@@ -99,7 +99,7 @@ fn survey_new(segment0: Option<u64>, segment1: Option<u64>) -> Result<Survey, St
     }
 }
 
-/// What a store is, by the epochs of its open slots.
+/// Classifies a store by the epochs of its open slots.
 fn survey_open(
     image0: Option<u64>,
     image1: Option<u64>,
@@ -125,7 +125,7 @@ fn survey_open(
     }
 }
 
-/// Checks that no header is of another version.
+/// Checks that no header has an unknown version.
 fn have_one_version(headers: &Headers) -> Result<(), StoreFault>
     ensures none { OnOk result ((headers.now.image0 ≢ Header.OtherVersion) × (headers.now.image1 ≢ Header.OtherVersion)
         × (headers.now.segment0 ≢ Header.OtherVersion) × (headers.now.segment1 ≢ Header.OtherVersion)) }
@@ -149,7 +149,7 @@ fn have_one_version(headers: &Headers) -> Result<(), StoreFault>
     Ok(())
 }
 
-/// What a store is, by the headers of its slots, if none is of another version.
+/// Classifies a store by the headers of its slots, none of which has an unknown version.
 fn survey_headers(headers: &Headers) -> Result<Survey, StoreFault>
     ensures surveyed { (slots : Slots)
         → SayAll slots headers.now.image0 headers.now.image1 headers.now.segment0 headers.now.segment1
@@ -167,10 +167,10 @@ fn survey_headers(headers: &Headers) -> Result<Survey, StoreFault>
     survey_open(image0, image1, segment0, segment1)
 }
 
-/// What a store is, by the headers of its slots.
+/// Classifies a store by the headers of its slots.
 ///
-/// `Version`: an open slot is of another version. `Damaged`: an open slot is of an epoch with the other number, or the
-/// slots are not as a server leaves them.
+/// `Version`: an open slot has an unknown version. `Damaged`: the epoch of an open slot belongs to the other slot, or
+/// the slots aren't as a server leaves them.
 pub(crate) fn survey_store(headers: &Headers) -> Result<Survey, StoreFault>
     ensures surveyed { (slots : Slots)
         → SayAll slots headers.now.image0 headers.now.image1 headers.now.segment0 headers.now.segment1

@@ -1,4 +1,4 @@
-//! Steps that return a value afterwards, which their caller would have to drop if a step fails.
+//! Steps that return a value of the caller, so that the caller needn't drop it if a step fails.
 ghost use Rattle.std.specs.Prelude.{◌≡◌, ◌+◌, ◌<◌, ◌≤◌, ◌∷◌, ◌++◌, [], Ok, Err, length, take, IfErr, IfOk, OnOk};
 ghost use Rattle.checkpoint.specs.Images.{open_image};
 ghost use Rattle.disk.specs.Moments.{CountsFailure, Follows, IsSynced, Passes};
@@ -12,7 +12,7 @@ use crate::making::end_segment;
 use checkpoint::Image;
 use disk::{Disk, DiskFault, Slot};
 
-/// A value, and another one if it was made. If it wasn't, the caller has nothing to drop.
+/// Pairs a value with the value of a result. If the result is an error, the first value is dropped here.
 pub(crate) fn both<T: Drop, U: Drop, E: Drop>(value: T, made: Result<U, E>) -> Result<(T, U), E>
     ensures ok { IfOk result (λ r. (r.0 ≡ value) × (made ≡ Ok r.1)) }
     ensures err { IfErr result (λ e. made ≡ Err e) }
@@ -23,7 +23,7 @@ pub(crate) fn both<T: Drop, U: Drop, E: Drop>(value: T, made: Result<U, E>) -> R
     }
 }
 
-/// Writes an image, and then returns a value.
+/// Writes an image, then returns `value`.
 pub(crate) fn write_after<D: Disk, T: Drop>(
     disk: &mut D,
     image: &Image,
@@ -44,7 +44,7 @@ pub(crate) fn write_after<D: Disk, T: Drop>(
     value_after(value, written)
 }
 
-/// Ends a segment, and then returns a value.
+/// Ends a segment, then returns `value`.
 pub(crate) fn end_after<D: Disk, T: Drop>(
     disk: &mut D,
     slot: Slot,
@@ -65,7 +65,7 @@ pub(crate) fn end_after<D: Disk, T: Drop>(
     value_after(value, ended)
 }
 
-/// A value after a step that was done. If the step wasn't done, the caller has nothing to drop.
+/// Returns `value` after a successful step. If the step failed, the value is dropped here.
 pub(crate) fn value_after<T: Drop, E: Drop>(value: T, done: Result<(), E>) -> Result<T, E>
     ensures ok { IfOk result (λ v. (v ≡ value) × (done ≡ Ok tt)) }
     ensures err { IfErr result (λ e. done ≡ Err e) }

@@ -1,4 +1,4 @@
--- How a relay continues, and how it ends.
+-- A relay after some frames, and its outcome.
 use Rattle.std.proofs.Common.{◌≡◌, inl, inr, ℕ, List, [], ◌∷◌, ◌++◌, length, Result, Err, refl, sym, ap, subst, ◌∙◌, ◌+◌, arith, append_assoc, length-append}
 use Rattle.std.proofs.lemmas.List.{append-nil}
 use Rattle.std.specs.Io.KnownBytes.{Appends, Consumes}
@@ -88,7 +88,7 @@ goes_on own peer own_mid peer_mid own_now peer_now count request reply so_far as
       counted = omega (arith, so_far.counted, length-append so_far.exchanges (exchange ∷ []));
     }
 
--- as the clause of the result says
+-- the outcome as the clause of the result has it
 ended_as : (own peer own_new peer_new : Side) (fault : WireFault) (result : Result (Unit {0}) WireFault)
     → result ≡ Err fault → Ends own peer own_new peer_new (Err fault) → Ends own peer own_new peer_new result
 ended_as own peer own_new peer_new fault result is ends = subst (Ends own peer own_new peer_new) (sym is) ends

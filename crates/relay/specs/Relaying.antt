@@ -1,5 +1,5 @@
--- What a relay reads and writes on its two sides, by how it ended. If what a stream holds is unknown, nothing is said
--- of it.
+-- The bytes that a relay reads and writes on its two sides, by the outcome. If the content of a stream is unknown,
+-- nothing is promised about it.
 use Rattle.std.specs.Prelude.{◌≡◌, ◌⊎◌, ℕ, ◌-◌, ◌^◌, List, [], ◌∷◌, ◌++◌, length, ⊤, Option, Some, IfSome, Result, Ok, Err}
 use Rattle.std.specs.Io.KnownBytes.{Appends, Consumes}
 use Rattle.wire.specs.Frame.{IsContentLength, IsReadOf}
@@ -8,7 +8,7 @@ use Rattle.wire.specs.declared.fault.WireFault.{WireFault}
 use Rattle.wire.specs.declared.fault.WireFault.TheVariants.{Short, Device}
 use Rattle.words.specs.Words.{frame_encoding}
 
--- One side: what it has left to be read, what was written to it, and what of that waits for a flush.
+-- One side of a relay: the input that is left, the bytes written, and those of them that aren't flushed yet.
 pub record Side : Type 0 where
   pub left : Option (List ℕ)
   pub written : Option (List ℕ)
@@ -17,11 +17,11 @@ pub record Side : Type 0 where
 abbrev pub side : Option (List ℕ) → Option (List ℕ) → List ℕ → Side
 side left written waiting = record { left = left; written = written; waiting = waiting }
 
--- a side from which something was read since
+-- a side after something was read from it
 abbrev pub as_left : Option (List ℕ) → Side → Side
 as_left left now = side left now.written now.waiting
 
--- what frames of the input hold, and the peer's replies to them
+-- the contents of the frames in the input, and of the peer's replies to them
 abbrev pub Exchanges : Type 0
 Exchanges = List (List ℕ × List ℕ)
 
@@ -33,13 +33,13 @@ abbrev pub replies_encoding : Exchanges → List ℕ
 replies_encoding [] = []
 replies_encoding (exchange ∷ exchanges) = frame_encoding exchange.1 ++ replies_encoding exchanges
 
--- each is a frame's content
+-- each is the content of a frame
 abbrev pub AreFrames : Exchanges → Type 0
 AreFrames [] = ⊤
 AreFrames (exchange ∷ exchanges) =
     IsContentLength (length exchange.0) × IsContentLength (length exchange.1) × AreFrames exchanges
 
--- what waits for a flush after some exchanges: nothing, if there was at least one
+-- the bytes that aren't flushed after some exchanges: none, if there was at least one
 abbrev pub waiting_after : List ℕ → Exchanges → List ℕ
 waiting_after waiting [] = waiting
 waiting_after waiting (exchange ∷ exchanges) = []
@@ -49,7 +49,7 @@ pub record IsTaken (old : Option (List ℕ)) (content : List ℕ) (new : Option 
   pub fits : IsContentLength (length content)
   pub taken : Consumes old new (frame_encoding content)
 
--- there was nothing left to read
+-- the input was at its end
 abbrev pub TakesAll : Option (List ℕ) → Option (List ℕ) → Type 0
 TakesAll old new = IfSome old (λ rest. (rest ≡ []) × (new ≡ Some []))
 
@@ -57,12 +57,12 @@ TakesAll old new = IfSome old (λ rest. (rest ≡ []) × (new ≡ Some []))
 abbrev pub IsUnread : Option (List ℕ) → WireFault → Option (List ℕ) → Type 0
 IsUnread old fault new = IfSome old (λ rest. IsReadOf rest (Err fault) new)
 
--- no reply could be read, or there was none
+-- no reply could be read, or the peer had ended
 abbrev pub IsUnanswered : Option (List ℕ) → WireFault → Option (List ℕ) → Type 0
 IsUnanswered old fault new = IsUnread old fault new ⊎ ((fault ≡ Short) × TakesAll old new)
 
--- The frames of these exchanges were read from the front of the input and sent to the peer, and their replies were read
--- from the peer and written to the output, all whole and in order; and all of it was flushed.
+-- The frames of these exchanges were read from the front of the input and sent to the peer. Their replies were read
+-- from the peer and written to the output. All were whole and in order, and all of it was flushed.
 pub record Exchanged (own peer : Side) (exchanges : Exchanges) (own_now peer_now : Side) : Type 0 where
   pub frames : AreFrames exchanges
   pub read : Consumes own.left own_now.left (requests_encoding exchanges)
@@ -72,7 +72,7 @@ pub record Exchanged (own peer : Side) (exchanges : Exchanges) (own_now peer_now
   pub replied : Appends own.written own_now.written (replies_encoding exchanges)
   pub left_waiting : own_now.waiting ≡ waiting_after own.waiting exchanges
 
--- How a relay ended between the side that it stands on (`own`) and its peer's.
+-- The outcome of a relay between its own side (`own`) and its peer's.
 module _ (own peer own_new peer_new : Side) where
   -- the input is at its end after these exchanges
   pub record RelaysAll : Type 0 where
@@ -87,8 +87,8 @@ module _ (own peer own_new peer_new : Side) where
     pub exchanged : Exchanged own peer exchanges (as_left left own_new) peer_new
     pub unread : IsUnread left fault own_new.left
 
-  -- The next frame can't be sent: a prefix of it is written, or all of it, and it can't be flushed. Nothing more is
-  -- read on either side.
+  -- The next frame can't be sent: a prefix of it is written, or all of it but it can't be flushed. Nothing more is read
+  -- on either side.
   pub record StopsSending (fault : WireFault) : Type 0 where
     pub exchanges : Exchanges
     pub left : Option (List ℕ)
@@ -100,7 +100,7 @@ module _ (own peer own_new peer_new : Side) where
     pub unheard : peer_new.left ≡ peer_mid.left
     pub fault_is : fault ≡ Device
 
-  -- the next frame is sent and flushed, and no reply to it can be read; nothing is written for it
+  -- the next frame is sent and flushed, but no reply to it can be read; nothing is written for it
   pub record StopsHearing (fault : WireFault) : Type 0 where
     pub exchanges : Exchanges
     pub left : Option (List ℕ)
@@ -112,7 +112,7 @@ module _ (own peer own_new peer_new : Side) where
     pub sent_on : peer_new.waiting ≡ []
     pub unanswered : IsUnanswered peer_mid.left fault peer_new.left
 
-  -- the next frame is answered, and the reply can't be written: a prefix of it is, or all of it, and it can't be
+  -- the next frame is answered, but the reply can't be written: a prefix of it is written, or all of it but it can't be
   -- flushed
   pub record StopsTelling (fault : WireFault) : Type 0 where
     pub exchanges : Exchanges
@@ -128,7 +128,7 @@ module _ (own peer own_new peer_new : Side) where
     pub part : AppendsPart own_mid.written own_new.written (frame_encoding reply)
     pub fault_is : fault ≡ Device
 
-  -- as many frames were answered as a relay sends at most
+  -- the relay answered the maximum number of frames
   pub record StopsAtMost (fault : WireFault) : Type 0 where
     pub exchanges : Exchanges
     pub exchanged : Exchanged own peer exchanges own_new peer_new

@@ -11,12 +11,12 @@ use std::net::Net;
 use std::os::unix::net::UnixStream;
 use wire::WireFault;
 
-/// The whole client: the words of its command line, or none if they can't be read as text, its input, output and
-/// errors. It returns the status to end with.
+/// Runs the client with its arguments, or `None` if they can't be read as text, its input, its output and its error
+/// stream. Returns the exit status.
 ///
-/// The one word is the socket of the peer. 0: the input was relayed to its end. 1: after a fault, or if the socket
-/// can't be connected to, with a line of errors. 2: there isn't exactly one word or the words can't be read, with a
-/// line of errors too.
+/// The argument is the socket of the peer. 0: the input was relayed to its end. 1: a fault, or the socket couldn't be
+/// connected to, with an error message. 2: there isn't exactly one argument or the arguments can't be read, with an
+/// error message.
 pub fn run_client<N: Net, I: Read, O: Write + Drop, E: Write>(
     alloc: Global,
     net: &N,
@@ -25,8 +25,7 @@ pub fn run_client<N: Net, I: Read, O: Write + Drop, E: Write>(
     output: &mut BufWriter<O>,
     errors: &mut E,
 ) -> u8
-    // The status and the line of errors are those of how the run ended. A writer of errors that fails has a part of the
-    // line.
+    // The status and the error message are those of the outcome. A failed writer of errors has a prefix of the message.
     ensures ended { (end : RelayEnd) × (result ≡ status_of end)
         × AppendsPart (E.contents errors.old) (E.contents errors.new) (line_of end)
         × EndsClient (side (I.remaining input.old) (writer_contents O.contents output.old) (writer_buffer output.old))
@@ -38,7 +37,7 @@ pub fn run_client<N: Net, I: Read, O: Write + Drop, E: Write>(
     end.status()
 }
 
-/// What `run_client` does except for its line of errors.
+/// Does everything that `run_client` does, except for the error message.
 pub fn ask_peer<N: Net, I: Read, O: Write + Drop>(
     alloc: Global,
     net: &N,

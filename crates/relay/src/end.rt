@@ -6,22 +6,22 @@ ghost use Rattle.wire.specs.Writing.{AppendsPart};
 use std::io::Write;
 use wire::{WireFault, write_bytes};
 
-/// How a run of the client ends.
+/// The outcome of a run of the client.
 #[derive(Clone, Copy, Debug, PartialEq, Eq)]
 pub enum RelayEnd {
     /// The input was relayed to its end.
     Relayed,
-    /// There isn't exactly one word, or the words can't be read.
+    /// There isn't exactly one argument, or the arguments can't be read.
     CommandLine,
-    /// No peer could be connected to.
+    /// The peer's socket couldn't be connected to.
     Socket,
     /// A stream failed.
     Fault(WireFault),
 }
 
 impl RelayEnd {
-    /// The status to end with: 0 without a fault, 1 after a fault or with no peer, 2 if there isn't exactly one word or
-    /// the words can't be read.
+    /// Returns the exit status: 0 without a fault, 1 after a fault or without a peer, 2 if there isn't exactly one
+    /// argument or the arguments can't be read.
     pub fn status(self) -> u8
         ensures { result ≡ status_of self }
     {
@@ -32,7 +32,7 @@ impl RelayEnd {
         }
     }
 
-    /// What follows the program's name on the line of errors: nothing if all was relayed.
+    /// Returns the error message after the program's name, or the empty string if the input was relayed to its end.
     pub fn words(self) -> &'static str
         ensures { result.now ≡ words_of self }
     {
@@ -44,8 +44,8 @@ impl RelayEnd {
         }
     }
 
-    /// Writes the line of errors, if there is one. `Device`: the writer failed, and some first bytes of the line may
-    /// have been written.
+    /// Writes the error message, if there is one. `Device`: the writer failed, and a prefix of the message may have
+    /// been written.
     pub fn tell<E: Write>(self, errors: &mut E) -> Result<(), WireFault>
         ensures ok { OnOk result (Appends (E.contents errors.old) (E.contents errors.new) (line_of self)) }
         ensures part { OnErr result (AppendsPart (E.contents errors.old) (E.contents errors.new) (line_of self)) }
@@ -60,7 +60,7 @@ impl RelayEnd {
     }
 }
 
-/// Writes the program's name, followed by these words.
+/// Writes the program's name, then these words.
 fn write_line<E: Write>(errors: &mut E, words: &str) -> Result<(), WireFault>
     ensures ok { OnOk result (Appends (E.contents errors.old) (E.contents errors.new) (codes "machc: " ++ words.now)) }
     ensures part { OnErr result (AppendsPart (E.contents errors.old) (E.contents errors.new)

@@ -9,10 +9,10 @@ use std::alloc::Global;
 use std::io::{BufWriter, Read, Write};
 use wire::{Frame, WireFault, read_frame, write_frame};
 
-/// Sends each frame of the input to a peer, and writes the peer's reply to the output, before the next frame is read.
+/// Sends each frame of the input to a peer, and writes the peer's reply to the output before it reads the next frame.
 ///
-/// `Short`: the peer ended before a reply, or a stream within a frame. The other faults are those of reading or writing
-/// the first frame that couldn't be read or written.
+/// `Short`: the peer ended before a reply, or a stream ended within a frame. The other faults are those of reading or
+/// writing the first frame that couldn't be read or written.
 pub fn relay<I: Read, O: Write + Drop, P: Read, S: Write + Drop>(
     alloc: Global,
     input: &mut I,
@@ -20,7 +20,7 @@ pub fn relay<I: Read, O: Write + Drop, P: Read, S: Write + Drop>(
     replies: &mut P,
     requests: &mut BufWriter<S>,
 ) -> Result<(), WireFault>
-    // All that was read and written on both sides, by how it ended.
+    // The bytes read and written on both sides, by the outcome.
     ensures ended { Ends (side (I.remaining input.old) (writer_contents O.contents output.old)
         (writer_buffer output.old))
         (side (P.remaining replies.old) (writer_contents S.contents requests.old) (writer_buffer requests.old))
@@ -38,7 +38,7 @@ pub fn relay<I: Read, O: Write + Drop, P: Read, S: Write + Drop>(
     Err(WireFault::Device)
 }
 
-/// The next frame of the input, or `None` at its end.
+/// Returns the next frame of the input, or `None` at its end.
 fn next_request<I: Read>(alloc: Global, input: &mut I) -> Result<Option<Frame>, WireFault>
     ensures found { IfOk result (λ found. MatchOption found (TakesAll (I.remaining input.old) (I.remaining input.new))
         (λ frame. IsTaken (I.remaining input.old) frame.content (I.remaining input.new))) }
@@ -47,7 +47,7 @@ fn next_request<I: Read>(alloc: Global, input: &mut I) -> Result<Option<Frame>, 
     read_frame(alloc, input)
 }
 
-/// The peer's next frame. If the peer ends before it, that is `Short`.
+/// Returns the peer's next frame. `Short`: the peer ended before it.
 pub fn next_reply<P: Read>(alloc: Global, replies: &mut P) -> Result<Frame, WireFault>
     ensures found { IfOk result (λ frame. IsTaken (P.remaining replies.old) frame.content (P.remaining replies.new)) }
     ensures unanswered { IfErr result

@@ -1,4 +1,5 @@
-//! The relay of a client: the frames of its input go to a peer one after another, and the peer's replies to its output.
+//! The relay of a client: sends the frames of its input to a peer one after another, and writes the peer's replies to
+//! its output.
 #![tactic(auto)]
 
 mod ask;

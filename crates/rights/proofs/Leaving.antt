@@ -1,4 +1,4 @@
--- What clauses say of a name that is left, and what a receive right loses when it moves.
+-- Facts about the entry of a name after a right was taken, and about a moved receive right.
 use Rattle.std.proofs.Common.{◌≡◌, ◌++◌, if◌then◌else◌, ℕ, Bool, true, List, [], Option, None, Some, Result, Ok, Err, OnOk, option_map, refl, sym, ◌∙◌, ap}
 use Rattle.std.specs.FinMap.{get, insert}
 use Rattle.ipc_model.specs.declared.entry.Entry.{Entry}

@@ -1,4 +1,4 @@
--- Names that rights bring, one right after another.
+-- The names that arriving rights bring.
 use Rattle.std.proofs.Common.{◌≡◌, ℕ, ◌+◌, ◌<◌, Bool, true, false, cond, ◌==◌, ◌||◌, List, [], ◌∷◌, ◌++◌, length, get_or, take, drop, refl, sym, ◌∙◌, ap, subst}
 use Rattle.std.proofs.lemmas.List.{take_more, take-append-drop}
 use Rattle.std.proofs.Math.Numerals.{add-one}
@@ -18,7 +18,7 @@ after_more : (named : List ℕ) (xs ys : List CarriedRight)
 after_more named [] ys = refl
 after_more named (x ∷ xs) ys = after_more (named_with named x.kind x.port) xs ys
 
--- the ports named by one more right
+-- the named ports after one more right
 pub named_one_more : (rights : List CarriedRight) (i : ℕ) (d : CarriedRight) → i < length rights
     → named_after [] (take (i + 1) rights)
     ≡ named_with (named_after [] (take i rights)) (get_or rights i d).kind (get_or rights i d).port
@@ -73,7 +73,7 @@ module _ (serial : ℕ) where
   stays named (right ∷ rights) h =
       stays (named_with named right.kind right.port) rights (kept named right.kind right.port h)
 
-  -- the name that one of the rights brings is there in the end
+  -- each name that one of the rights brings is among the names in the end
   pub brought_by_one : (rights : List CarriedRight) (i : ℕ) (d : CarriedRight) → i < length rights
       → names_port serial (get_or rights i d).kind (get_or rights i d).port ≡ true
       → holds (named_after [] rights) ≡ true
@@ -84,7 +84,7 @@ module _ (serial : ℕ) where
       (ap holds (named_one_more rights i d h)
       ∙ brought (named_after [] (take i rights)) (get_or rights i d).kind (get_or rights i d).port e))
 
--- the count of new names, with one more right
+-- the count of new names after one more right
 pub one_wants : (names : Names) (rights : List CarriedRight) (i : ℕ) (d : CarriedRight) → i < length rights
     → names_needed names (named_after [] (take i rights)) (drop i rights)
     ≡ (cond (wants_name names (named_after [] (take i rights)) (get_or rights i d).kind (get_or rights i d).port) 1 0)
@@ -96,6 +96,6 @@ one_wants names rights i d h =
     (wants_name names (named_after [] (take i rights)) (get_or rights i d).kind (get_or rights i d).port) 1 0 +
     names_needed names named (drop (i + 1) rights)) (sym (named_one_more rights i d h))
 
--- the right that a reading past the end would give
+-- the default value for an index past the end
 abbrev pub blank : CarriedRight
 blank = record { kind = kind.Receive; port = in_message.Null }

@@ -1,4 +1,4 @@
--- Rights on their way: some have arrived, and the others are still to.
+-- A list of rights of which some have arrived.
 use Rattle.std.proofs.Common.{◌≡◌, ℕ, ◌+◌, ◌<◌, ◌≤◌, List, [], ◌∷◌, ◌++◌, Option, None, Some, is_some, true, refl, sym, ◌∙◌, ap, subst, append_assoc, append-nil}
 use Rattle.std.specs.Prelude.{MatchOption}
 use Rattle.std.specs.Ordering.{nat_cmp}
@@ -30,7 +30,7 @@ way_first names rights wanted given none room = record {
   wants = λ last arrives. (sym (ap (λ (l : List ℕ). l ++ wanted) none), arrives);
 }
 
--- what is required of the right that arrives, and of those after it
+-- the preconditions of the next right and of those after it
 wanted_front : (left later : List ℕ) (shown : Option ℕ) (n : ℕ) (others : List ℕ)
     → MatchOption shown ((left ≡ []) × (later ≡ [])) (λ first. left ≡ first ∷ later) → left ≡ n ∷ others
     → (shown ≡ Some n) × (later ≡ others)
@@ -80,7 +80,7 @@ way_more start now after rights rest beyond wanted left later given added right 
     next : Names
     next = names_after now right.kind right.port name
 
--- there is room for the next one
+-- there is room for the next right
 pub way_room : (start now : Names) (rights rest beyond : List CarriedRight) (wanted left given : List ℕ)
     (right : CarriedRight) → OnTheWay start now rights rest wanted left given → rest ≡ right ∷ beyond
     → (name serial : ℕ) → right.port ≡ in_message.Live serial → MayArrive now right.kind right.port name
@@ -89,7 +89,7 @@ way_room start now rights rest beyond wanted left given right way is name serial
     room_for_one start now way.fits.0 right beyond name serial live
     (subst (λ (l : List CarriedRight). Fits start now way.fits.0 l) is way.fits.1) may free
 
--- all have arrived
+-- all rights have arrived
 pub way_last : (start now : Names) (rights rest : List CarriedRight) (wanted left given : List ℕ)
     → OnTheWay start now rights rest wanted left given → rest ≡ [] → Arrives start rights given now
 way_last start now rights rest wanted left given way none =
@@ -129,7 +129,7 @@ unchanged state space right name there same =
     (sym (insert-same state.spaces space (names_in state space) (there_is state space there) ∙ refl) ∙ ap
     (λ (n : Names). finmap.insert state.spaces space n) (sym same))
 
--- the names of a space that got these rights
+-- the names of a space after these rights arrived
 pub names_got : (state new : Ipc) (space : ℕ) (names : Names) → new ≡ with_names state space names
     → names_in new space ≡ names
 names_got state new space names is =
@@ -140,14 +140,14 @@ pub there_too : (state new : Ipc) (space : ℕ) (names : Names) → new ≡ with
 there_too state new space names is =
     ap (λ (s : Ipc). is_some (finmap.get s.spaces space)) is ∙ ap is_some (get-here state.spaces space names)
 
--- at first no name has changed
+-- initially no name has changed
 pub got_first : (state : Ipc) (space : ℕ) → is_some (finmap.get state.spaces space) ≡ true
     → state ≡ with_names state space (names_in state space)
 got_first state space there =
     ap (λ (spaces : FinMap nat_cmp Names). record state { spaces = spaces })
     (sym (insert-same state.spaces space (names_in state space) (there_is state space there)))
 
--- names that changed twice
+-- two successive changes of a space's names are one
 pub got_later : (state now after : Ipc) (space : ℕ) (names : Names)
     → now ≡ with_names state space (names_in now space) → after ≡ with_names now space names
     → after ≡ with_names state space (names_in after space)

@@ -21,14 +21,14 @@ use Rattle.ipc_laws.specs.ListLaws.{some_same}
 use Rattle.ipc_laws.specs.MapLaws.{get-here, get-there}
 use Rattle.ipc_laws.specs.Others.{number_decided, number_same}
 
--- room for the names that rights need, if every port that needs none has a name
+-- The space has room for the names that the rights need, and each port counted as named has a name.
 pub record Fits (start now : Names) (named : List ℕ) (rights : List CarriedRight) : Type 0 where
   pub room : finmap.len now + names_needed start named rights ≤ MAX_NAMES
   pub known : (serial : ℕ) → (is_none (name_of_port start serial) && not (list_any (λ port. port == serial) named))
       ≡ false → HasName now serial
 
--- what becomes of the names when one right arrives: ports keep their names, the right's own port has one, and there is
--- one more name only where one was needed
+-- The effect of one arriving right on the names: ports keep their names, the right's own port has one, and there is one
+-- name more only if the right needed one.
 record HasArrived (names after : Names) (what : RightKind) (port : PortInMessage) : Type 0 where
   still : (serial : ℕ) → HasName names serial → HasName after serial
   own : (serial : ℕ) → port ≡ in_message.Live serial → what ≢ kind.SendOnce → HasName after serial
@@ -80,7 +80,7 @@ merged_holds kind.Receive rights = refl
 merged_holds kind.Send rights = refl
 merged_holds kind.SendOnce rights = refl
 
--- the right arrives under a name that isn't in use
+-- the right arrives under an unused name
 fresh : (names : Names) (what : RightKind) (serial name : ℕ) → finmap.get names name ≡ None
     → ((other : ℕ) → in_message.Live serial ≡ in_message.Live other → HasName names other → what ≢ kind.SendOnce → ⊥)
     → HasArrived names (finmap.insert names name (merged_entry what serial (finmap.get names name))) what
@@ -169,7 +169,7 @@ arrived names kind.Send (in_message.Live serial) name may =
 arrived names kind.Receive (in_message.Live serial) name may =
     by_name names kind.Receive serial name (name_of_port names serial) refl (λ (e : _). cc e) may
 
--- a port that needs no name by the count has one
+-- a port whose right needs no name by the count has a name
 has_one : (start now : Names) (named : List ℕ) (rights : List CarriedRight) (what : RightKind) (port : PortInMessage)
     → Fits start now named rights → wants_name start named what port ≡ false → (serial : ℕ)
     → port ≡ in_message.Live serial
@@ -211,7 +211,7 @@ known_later start now after named rights kind.Send (in_message.Live n) fits stil
 known_later start now after named rights kind.Receive (in_message.Live n) fits still own serial unwanted =
     one_named start now after named rights kind.Receive n fits still (λ (is : _). cc is) own serial unwanted
 
--- there is room for one right if it arrives under an unused name
+-- if the right arrives under an unused name, the count includes it
 by_named : (start now : Names) (named : List ℕ) (rights : List CarriedRight) (what : RightKind) (port : PortInMessage)
     (name : ℕ) → MayArrive now what port name → finmap.get now name ≡ None → (serial : ℕ)
     → port ≡ in_message.Live serial
@@ -255,7 +255,7 @@ room_for_one start now named right rights name serial live fits may free =
           (has_one start now named (right ∷ rights) right.kind right.port fits unwanted serial live))
     ] refl fits.room
 
--- the others fit once it has arrived
+-- the remaining rights fit after the first one has arrived
 pub fits_later : (start now : Names) (named : List ℕ) (right : CarriedRight) (rights : List CarriedRight) (name : ℕ)
     → Fits start now named (right ∷ rights) → MayArrive now right.kind right.port name
     → Fits start (names_after now right.kind right.port name) (named_with named right.kind right.port) rights
@@ -276,7 +276,7 @@ fits_later start now named right rights name fits may =
       known = known_later start now next named (right ∷ rights) right.kind right.port fits here.still here.own;
     }
 
--- at first the names that ports have are those of the space
+-- initially the named ports are those with names in the space
 pub fits_first : (names : Names) (rights : List CarriedRight)
     → finmap.len names + names_needed names [] rights ≤ MAX_NAMES → Fits names names [] rights
 fits_first names rights room = record {

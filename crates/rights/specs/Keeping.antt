@@ -1,4 +1,4 @@
--- Copy in neither makes a space nor removes one.
+-- Copy in neither creates nor removes spaces.
 use Rattle.std.specs.Prelude.{◌≡◌, ℕ, ◌+◌, ◌-◌, Bool, true, false, cond, ◌==◌, List, Option, None, Some, is_some, IsSome, option_and_then, if◌then◌else◌, IfSome, refl}
 use Rattle.std.proofs.Common.{sym, ◌∙◌, ap, subst}
 use Rattle.std.specs.Cmp.{nat_cmp_total}
@@ -21,7 +21,7 @@ use Rattle.ipc_model.specs.state.Ipc.{Ipc, Names, with_names, with_changed, with
 abbrev Spaces : Type 0
 Spaces = FinMap nat_cmp Names
 
--- the same spaces exist, whatever their names
+-- The same spaces exist; their names may differ.
 pub record KeepsSpaces (old new : Ipc) : Type 0 where
   pub there : (space : ℕ) → is_some (finmap.get new.spaces space) ≡ is_some (finmap.get old.spaces space)
   pub count : finmap.len new.spaces ≡ finmap.len old.spaces
@@ -134,7 +134,7 @@ copied_in : (state : Ipc) (space name : ℕ) (disposition : Disposition)
 unfolding copy_in
 copied_in state space name disposition = some_entry_taken state space name disposition (entry_at state space name)
 
--- after copy in, the spaces are those from before
+-- copy in keeps the spaces
 pub copy_in_keeps_spaces : (state : Ipc) (space name : ℕ) (disposition : Disposition) (taken : Taken)
     → copy_in state space name disposition ≡ Some taken → KeepsSpaces state taken.state
 copy_in_keeps_spaces state space name disposition taken is =
@@ -146,7 +146,7 @@ pub copy_in_keeps : (state : Ipc) (space name : ℕ) (disposition : Disposition)
 copy_in_keeps state space name disposition taken there is =
     (copy_in_keeps_spaces state space name disposition taken is).there space ∙ there
 
--- the number of spaces is the same, whether or not anything was taken
+-- copy in keeps the number of spaces, whether it takes a right or is refused
 pub spaces_counted : (state : Ipc) (space name : ℕ) (disposition : Disposition) (waiting : List Effect)
     (right : Option CarriedRight) (new : Ipc) (after : List Effect)
     → Takes (copy_in state space name disposition) state waiting right new after

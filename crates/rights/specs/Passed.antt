@@ -1,4 +1,4 @@
--- What the crates above use of the state, passed on.
+-- Re-exports from `ipc_state` for crates above.
 pub use Rattle.ipc_state.specs.Added.{added_again, added_there, names_added}
 pub use Rattle.ipc_state.specs.Live.{carries_live, is_live, is_live_port, is_live_reply}
 pub use Rattle.ipc_state.specs.Running.{Running}

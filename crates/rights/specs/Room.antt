@@ -1,4 +1,4 @@
--- There is room for the name that a right gets, if there is for the names that are needed.
+-- If there is room for the names that are needed, there is room for the name that a right gets.
 use Rattle.std.specs.Prelude.{◌≡◌, ℕ, ◌+◌, ◌<◌, ◌≤◌, Bool, true, ◌&&◌, [], ◌∷◌, Option, None, Some, is_none, MatchOption, if◌then◌else◌, refl}
 use Rattle.std.proofs.Common.{sym, ◌∙◌, ap, subst, arith}
 use Rattle.std.specs.FinMap as finmap
@@ -12,7 +12,7 @@ use Rattle.ipc_laws.specs.Arrivals.{named_there}
 use Rattle.ipc_model.specs.rights.CopyOut.{MayArrive, MayBeNamed, names_needed, wants_name}
 use Rattle.ipc_model.specs.state.Ipc.{Names, IsUnused, name_of_port}
 
--- how many names one right needs
+-- the number of names that one right needs
 abbrev count_of : Bool → ℕ
 count_of wanted = (if wanted then 1 else 0) + 0
 
@@ -32,7 +32,7 @@ module _ (names : Names) (name : ℕ) (free : finmap.get names name ≡ None) wh
   room_for kind.Send serial may fits = room_by serial (name_of_port names serial) refl may fits
   room_for kind.Receive serial may fits = room_by serial (name_of_port names serial) refl may fits
 
--- a right to a port that may arrive under a name that isn't in use
+-- there is room for a right that arrives under an unused name
 pub room_to_come : (names : Names) (right : CarriedRight) (serial name : ℕ) → right.port ≡ in_message.Live serial
     → finmap.len names + names_needed names [] (right ∷ []) ≤ MAX_NAMES
     → MayArrive names right.kind right.port name → finmap.get names name ≡ None → finmap.len names < MAX_NAMES

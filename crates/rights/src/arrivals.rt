@@ -12,8 +12,8 @@ use ipc_model::{CarriedRight, PortInMessage};
 use ipc_state::IpcState;
 use std::alloc::AllocError;
 
-/// The name under which a right arrives: the preferred one if it may arrive under it, else the one that it gets by
-/// itself.
+/// Returns the name under which a right arrives: the preferred name if that is possible, otherwise the name of
+/// `arrival_name`.
 pub fn arrival_needed(state: &IpcState, space: u32, right: CarriedRight, wanted: Option<u32>) -> u32
     ensures may { MayArrive (names_in state.now.current space) right.kind right.port result }
     ensures wanted { (shown : ℕ) → wanted ≡ Some shown
@@ -25,7 +25,7 @@ pub fn arrival_needed(state: &IpcState, space: u32, right: CarriedRight, wanted:
     }
 }
 
-/// Puts a right that arrives under a name; if it is no right, nothing changes.
+/// Puts an arriving right under a name. `MACH_PORT_NULL` and `MACH_PORT_DEAD` change nothing.
 fn put_arrived(
     state: &mut IpcState,
     space: u32,
@@ -73,7 +73,7 @@ fn arrive_one(
     Ok(name)
 }
 
-/// The first of the preferred names, if there is one, and those after it.
+/// Splits off the first preferred name, if there is one.
 fn front(wanted: &[u32]) -> (Option<u32>, &[u32])
     ensures { MatchOption result.0 ((wanted.now ≡ []) × (result.1.now ≡ []))
         (λ first. wanted.now ≡ first ∷ result.1.now) }
@@ -84,7 +84,7 @@ fn front(wanted: &[u32]) -> (Option<u32>, &[u32])
     }
 }
 
-/// Puts rights into a space, each under its preferred name if it may arrive there, and adds their names. The space has
+/// Puts rights into a space, each under its preferred name if that is possible, and appends their names. The space has
 /// room for the new names that they need. If an allocation fails, the changes must be rolled back.
 pub fn arrive(
     state: &mut IpcState,

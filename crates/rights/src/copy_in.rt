@@ -11,9 +11,9 @@ use ipc_model::{CarriedRight, Entry, PortInMessage, PortRights, RightKind};
 use ipc_state::{IpcState, PortNumbers};
 use std::alloc::AllocError;
 
-/// Copy in: takes a right from a name of a space by a disposition. If that is refused, it takes nothing and nothing
-/// changed. The port-deleted notice of a name that ceases to exist goes to the end of the effects. If an allocation
-/// fails, the changes must be rolled back.
+/// Copy in: takes a right from a name of a space by a disposition. If that is refused, nothing changed. If the name is
+/// removed, its port-deleted notice is appended to the effects. If an allocation fails, the changes must be rolled
+/// back.
 #[tactic(auto, unfolding(ipc_model::specs::rights::CopyIn::copy_in))]
 pub fn take_right(
     state: &mut IpcState,
@@ -123,7 +123,7 @@ fn move_receive(
     Ok(Some(right_to(RightKind::Receive, rights.port)))
 }
 
-/// A moved receive right leaves its set, and loses its sequence number and make-send count.
+/// Removes a moved receive right from its set, and resets its sequence number and make-send count.
 fn reset_port(state: &mut IpcState, serial: u64) -> Result<(), AllocError>
     ensures moved { OnOk result (state.new.current ≡ moved_port state.old.current serial) }
     ensures spaces { OnOk result (state.new.current.spaces ≡ state.old.current.spaces) }
@@ -167,7 +167,7 @@ fn move_send(
     Ok(Some(right_to(RightKind::Send, rights.port)))
 }
 
-/// Makes a send right from the receive right, and counts it.
+/// Makes a send right from the receive right, and increments the make-send count.
 fn make_send(state: &mut IpcState, rights: PortRights) -> Result<Option<CarriedRight>, AllocError>
     ensures none { IfOk result
         (λ made. IfNone made ((rights.receive ≡ false) × (state.new.current ≡ state.old.current))) }
@@ -194,7 +194,7 @@ fn make_send(state: &mut IpcState, rights: PortRights) -> Result<Option<CarriedR
     Ok(Some(right_to(RightKind::Send, rights.port)))
 }
 
-/// Moves a send-once right; its name ceases to exist.
+/// Moves a send-once right, and removes its name.
 fn take_send_once(
     state: &mut IpcState,
     space: u32,
@@ -217,7 +217,7 @@ fn take_send_once(
     Ok(Some(right_to(RightKind::SendOnce, port)))
 }
 
-/// A dead name arrives as `MACH_PORT_DEAD`; a move takes one reference.
+/// Takes `MACH_PORT_DEAD` from a dead name. A move takes one of its references.
 fn take_dead(
     state: &mut IpcState,
     space: u32,

@@ -10,8 +10,8 @@ use ipc_model::{CarriedRight, Entry, PortInMessage, PortRights, RightKind};
 use ipc_state::IpcState;
 use std::alloc::AllocError;
 
-/// The name that a right gets when it arrives in a space: for a send or receive right the name of its port, if it has
-/// one there, else the least unused name; `MACH_PORT_NULL` and `MACH_PORT_DEAD` arrive as themselves.
+/// Returns the name that an arriving right gets: for a send or receive right the name that the space has for its port,
+/// if it has one, otherwise the least unused name. `MACH_PORT_NULL` and `MACH_PORT_DEAD` arrive as themselves.
 pub fn arrival_name(state: &IpcState, space: u32, right: CarriedRight) -> u32
     ensures { MayArrive (names_in state.now.current space) right.kind right.port result }
 {
@@ -34,7 +34,7 @@ fn name_for(state: &IpcState, space: u32, kind: RightKind, port: u64) -> u32
     }
 }
 
-/// Whether a right may arrive in a space under this name.
+/// Returns true if a right may arrive in a space under this name.
 pub fn may_arrive(state: &IpcState, space: u32, right: CarriedRight, name: u32) -> bool
     ensures { IsTrue result ↔ MayArrive (names_in state.now.current space) right.kind right.port name }
 {
@@ -57,8 +57,8 @@ fn may_be_named(state: &IpcState, space: u32, kind: RightKind, port: u64, name: 
     }
 }
 
-/// Copy out: puts a right into a space under a name; a send right adds a reference, up to the greatest number of them.
-/// If an allocation fails, the changes must be rolled back.
+/// Copy out: puts a right into a space under a name. A send right adds a reference, up to the maximum. If an allocation
+/// fails, the changes must be rolled back.
 pub fn put_right(
     state: &mut IpcState,
     space: u32,
@@ -80,7 +80,7 @@ pub fn put_right(
     state.put_name(space, name, entry)
 }
 
-/// What a name stands for after it takes one more right.
+/// Returns the entry of a name after it took one more right.
 fn merged(kind: RightKind, port: u64, before: Option<Entry>) -> Entry
     requires few { IfSome before AreFewReferences }
     ensures entry { result ≡ merged_entry kind port before }
@@ -92,7 +92,7 @@ fn merged(kind: RightKind, port: u64, before: Option<Entry>) -> Entry
     }
 }
 
-/// The rights of a name with one more right to the same port.
+/// Returns the rights of a name after it took one more right to the same port.
 fn with_right(kind: RightKind, rights: PortRights) -> PortRights
     requires few { rights.send ≤ MAX_SEND_REFERENCES }
     ensures rights { result ≡ merged_rights kind rights }
@@ -111,7 +111,7 @@ fn with_right(kind: RightKind, rights: PortRights) -> PortRights
     }
 }
 
-/// What a new name stands for that takes a right.
+/// Returns the entry of a new name that takes a right.
 fn new_entry(kind: RightKind, port: u64) -> Entry
     ensures entry { result ≡ new_entry kind port }
     ensures few { AreFewReferences result }

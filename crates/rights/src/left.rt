@@ -8,7 +8,7 @@ use ipc_model::Entry;
 use ipc_state::{IpcState, request_of};
 use std::alloc::AllocError;
 
-/// Whether a name stands for nothing any more, and so ceases to exist.
+/// Returns true if an entry holds nothing, so that its name is removed.
 pub fn is_empty(entry: Entry) -> bool
     ensures { result ≡ is_empty_entry entry }
 {
@@ -19,7 +19,8 @@ pub fn is_empty(entry: Entry) -> bool
     }
 }
 
-/// Adds the port-deleted notice of a name, if what is left of it is nothing. If an allocation fails, nothing changed.
+/// Appends the port-deleted notice of a name, if its remaining entry holds nothing. If an allocation fails, nothing
+/// changed.
 pub fn announce_left(effects: &mut Effects, name: u32, entry: Entry) -> Result<(), AllocError>
     ensures ok { OnOk result (effects.new ≡ effects.old ++ notices_of_left name entry) }
     ensures err { OnErr result (effects.new ≡ effects.old) }
@@ -30,7 +31,7 @@ pub fn announce_left(effects: &mut Effects, name: u32, entry: Entry) -> Result<(
     Ok(())
 }
 
-/// Makes a name in use stand for this; left without a right, it ceases to exist. If an allocation fails, the changes
+/// Replaces the entry of a name, or removes the name if the entry holds nothing. If an allocation fails, the changes
 /// must be rolled back.
 pub fn set_left(state: &mut IpcState, space: u32, name: u32, entry: Entry) -> Result<(), AllocError>
     requires named { IsSome (entry_at state.old.current space name) }

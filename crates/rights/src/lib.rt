@@ -1,4 +1,4 @@
-//! Rights on their way: copy in from a name, and copy out to one.
+//! Copy in takes a right from a name; copy out puts a right under a name.
 #![tactic(auto)]
 
 mod arrivals;

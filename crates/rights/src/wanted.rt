@@ -7,8 +7,8 @@ ghost use Rattle.rights.specs.Wanting.{named_after, names_port};
 use ipc_model::{CarriedRight, PortInMessage, RightKind};
 use ipc_state::IpcState;
 
-/// How many new names are needed by rights that arrive in a space one after another: one for each send-once right to a
-/// port, and one for each port that has no name there. It takes no memory.
+/// Returns the number of new names for rights that arrive in a space one after another: one for each send-once right to
+/// a port, and one for each port without a name there. It allocates nothing.
 pub fn names_needed(state: &IpcState, space: u32, rights: &[CarriedRight]) -> usize
     ensures wanted { result ≡ names_needed (names_in state.now.current space) [] rights.now }
     ensures few { result ≤ length rights.now }
@@ -22,7 +22,7 @@ pub fn names_needed(state: &IpcState, space: u32, rights: &[CarriedRight]) -> us
     wanted
 }
 
-/// Whether a right that arrives after others needs a new name.
+/// Returns true if a right that arrives after others needs a new name.
 fn wants_name(state: &IpcState, space: u32, before: &[CarriedRight], right: CarriedRight) -> bool
     ensures { result ≡ wants_name (names_in state.now.current space) (named_after [] before.now) right.kind right.port }
 {
@@ -35,7 +35,7 @@ fn wants_name(state: &IpcState, space: u32, before: &[CarriedRight], right: Carr
     state.name_of_port(space, port).is_none() && !gets_name(before, port)
 }
 
-/// Whether these rights give a port a name.
+/// Returns true if one of these rights gives a port a name.
 fn gets_name(rights: &[CarriedRight], port: u64) -> bool
     ensures { result ≡ list_any (λ named. named == port) (named_after [] rights.now) }
 {

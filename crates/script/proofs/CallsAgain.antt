@@ -37,7 +37,7 @@ plain_parts : (v : Verb) (c : PlainCall) (w0 w1 w2 w3 w4 w5 : List (List ℕ)) (
 unfolding plain_at arguments_at
 plain_parts v c w0 w1 w2 w3 w4 w5 a e1 e2 e3 e4 e5 made = rw (e1, e2, e3, e4, e5) (rw made refl)
 
--- calls of no argument, of one, of two and of three
+-- calls with no argument, with one, with two and with three
 none : (v : Verb) (c : PlainCall) (ws : List (List ℕ)) → kinds_of v ≡ three_kinds Absent Absent Absent
     → plain_call v (record { first = 0; second = 0; third = 0; fourth = 0; fifth = 0 }) ≡ Some c
     → plain_at v ws ≡ Ok (c, ws)
@@ -162,7 +162,7 @@ plain_call_again : (c : PlainCall) (ws : List (List ℕ)) → HasPlainLine c →
 unfolding plain_call_at plain_call_words
 plain_call_again c ws f apart = rw (verb_again (verb_of c)) (after_again c ws f apart)
 
--- no such call begins with the word for one that is numbered
+-- no such call begins with the word of numbered calls
 no_verb : (v : Verb) (ws : List (List ℕ)) → label_at (codes "numbered") (verb_word v ∷ ws) ≡ None
 unfolding label_at
 no_verb verb.Attach ws = refl

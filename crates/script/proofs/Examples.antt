@@ -17,7 +17,7 @@ use Rattle.script.specs.Reading.{number_at, value_at, label_at, last}
 use Rattle.script.specs.Replies.{last_value, results_at, made_at, numbered_reply_at, own_reply_at, plain_reply_at, refusal_at, reply_at, silence}
 use Rattle.script.specs.Scripts.{lines_of, lines_read, script_read}
 
--- a comment and a blank line hold no call, but count as lines
+-- comments and blank lines contain no call, but count as lines
 comments_count : script_read (codes "# a task" ++ 10 ∷ 10 ∷ codes "type 256 = 0x30000" ++ 10
     ∷ codes " destroy 0x1 # done")
     ≡ Ok (record {
@@ -33,7 +33,7 @@ unfolding lines_of lines_read line_read words_of exchange_at call_at own_call_at
     read_word reply_at own_reply_at plain_reply_at results_at last_value last silence
 comments_count = refl
 
--- the first line that can't be read is reported, and no later one
+-- the first line that can't be read is reported
 first_fault : script_read (codes "destroy 0x1" ++ 10 ∷ codes "destroy  nine # no name" ++ 10 ∷ codes "destroy" ++ 10
     ∷ []) ≡ Err (record { line = 2; fault = line_fault.Unreadable 9 expected.Number })
 unfolding lines_of lines_read line_read words_of exchange_at call_at own_call_at plain_call_at label_at after_at
@@ -41,7 +41,7 @@ unfolding lines_of lines_read line_read words_of exchange_at call_at own_call_at
     read_word reply_at own_reply_at plain_reply_at silence column_of
 first_fault = refl
 
--- a call that is numbered, and its answer
+-- a numbered call and its reply
 numbered_line : script_read (codes "numbered 7 destroy 0x1 : 7" ++ 10
     ∷ codes "numbered 6 destroy 1 ! KERN_INVALID_VALUE")
     ≡ Ok (record {

@@ -35,7 +35,7 @@ bytes_first (suc n) [] fits i = omega arith
 bytes_first (suc n) (a ∷ bytes) fits zero = fits 0
 bytes_first (suc n) (a ∷ bytes) fits (suc i) = bytes_first n bytes (λ k. fits (suc k)) i
 
--- numbers of four bytes
+-- all are numbers of four bytes
 abbrev pub AreNumbers : List ℕ → Type 0
 AreNumbers [] = Unit {0}
 AreNumbers (n ∷ ns) = (n < 2 ^ 32) × AreNumbers ns
@@ -59,7 +59,7 @@ if_none false o y e = (refl, e)
 some_same : {A : Type 0} (x y : A) → Some x ≡ Some y → x ≡ y
 some_same x y e = cc
 
--- what a body begins with is put together again
+-- the front of a body, put together again
 record WordFront (body : List ℕ) (w : ℕ × List ℕ) : Type 0 where
   is : body ≡ word w.0 ++ w.1
   fits : AreBytes w.1
@@ -228,7 +228,7 @@ bytes_parts body found fits e =
       beyond = tail.beyond;
     })
 
--- what holds of each item that has a form, and of items without one
+-- a fact about items with and without a written form
 pub item_cases : (P : Option (List (List ℕ) × List ℕ) → Type 0) (body : List ℕ) → AreBytes body
     → ((w : ℕ × List ℕ × List ℕ) → WordsFront body w → P (Some (words_item_words w.0 (numbers_in w.1), w.2)))
     → ((b : List ℕ × List ℕ) → BytesFront body b → P (Some (bytes_item_words b.0, b.1))) → P None → P (item_front body)
@@ -249,7 +249,7 @@ item_cases P body fits words bytes none =
           ] refl
     ] refl
 
--- numbers in a row
+-- Consecutive numbers.
 abbrev kind_if : Bool → Kind
 kind_if ports = cond ports kind.Hexadecimal kind.Decimal
 
@@ -313,7 +313,7 @@ bytes_item_parts : (rest ws : List (List ℕ)) (bytes : List ℕ) → bytes_at r
 unfolding item_at bytes_item_at
 bytes_item_parts rest ws bytes read few = rw (label_again (codes "bytes") rest, item_at) (rw read (rw few refl))
 
--- what comes after the items
+-- the words after the items
 data_only : (n : ℕ) (words : List (List ℕ)) → label_at (codes "item") words ≡ None → parts_at n words
     ≡ optional_bytes_at (codes "data") words
 unfolding parts_at
@@ -332,7 +332,7 @@ item_more : (n : ℕ) (rest more ws : List (List ℕ)) (text body : List ℕ) �
 unfolding parts_at
 item_more n rest more ws text body item parts = rw (label_again (codes "item") rest, parts_at) (rw item (rw parts refl))
 
--- the words of a body don't begin with a number
+-- the words of a body's rest don't begin with a number
 data_no_number : (body : List ℕ) (ws : List (List ℕ)) → numbers_at ws ≡ ([], ws)
     → numbers_at (optional_bytes (codes "data") body ++ ws) ≡ ([], optional_bytes (codes "data") body ++ ws)
 unfolding optional_bytes read_word

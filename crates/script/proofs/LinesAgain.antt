@@ -62,7 +62,7 @@ pub line_blank : (line : List ℕ) → words_of line ≡ [] → line_read line �
 unfolding line_read
 line_blank line is = ap (words_read line) is
 
--- one that can't be read
+-- a line that can't be read
 pub line_fails : (f : Fault) (line word : List ℕ) (words : List (List ℕ)) → words_of line ≡ word ∷ words
     → Fails f (exchange_at (words_of line)) → UnlessMemory (Err (fault_of line f)) (line_read line)
 line_fails fault.NoMemory line word words is fails = tt
@@ -81,7 +81,7 @@ line_read_again line x is fits =
     line_ok line (first_word x.call) (further_words x.call ++ reply_words x.reply) x is
     (ap exchange_at is ∙ exchange_again x fits)
 
--- if a line can be read, the only fault is that memory runs out
+-- if a line can be read, the only fault is out of memory
 pub is_read : {X : Type 0} (r : Result X LineFault) (said : Result X LineFault) (x : X) → UnlessMemory r said
     → said ≡ Ok x → IsRead r x
 is_read (Ok y) said x unless is = let same : Ok y ≡ Ok x = sym unless ∙ is in cc

@@ -45,7 +45,7 @@ natural_again radix n low high fits short =
     from_digits radix 0 ds (omega arith) is.0.1 (omega (arith, is.1)) in
     ap (λ (b : Bool). cond b None (number_from radix 0 ds)) long ∙ value ∙ ap Some is.1
 
--- decimal digits aren't taken for another kind of number
+-- decimal digits aren't mistaken for another kind of number
 plain_digits : (ds : List ℕ) → AllDigits 10 ds → (starts_with nat_eq ds (codes "0x") ≡ false)
     × (starts_with nat_eq ds (codes "-") ≡ false)
 plain_digits [] are = (refl, refl)

@@ -1,4 +1,4 @@
--- What is printed consists of words: none is empty, and none has a space or begins a comment.
+-- Printed words aren't empty, contain no space and begin no comment.
 use Rattle.std.proofs.Common.{◌≡◌, ℕ, zero, suc, ◌-◌, ◌%◌, ◌/◌, ◌^◌, ◌<◌, ◌≤◌, Bool, true, false, ◌&&◌, ◌==◌, List, [], ◌∷◌, ◌++◌, length, drop, cond, refl, arith, Option, Some, None}
 use Rattle.std.specs.Prelude.{nat_lt, nat_le, codes, decimal, slice_index, unwrap_or, map, All}
 use Rattle.std.specs.Char.{digit_value}
@@ -97,7 +97,7 @@ named P false word rest text here there = there
 abbrev Prints : List ℕ → Type 0
 Prints word = is_word word ≡ true
 
--- every number's word is one
+-- the word of every number is valid
 pub value_printed : (k : Kind) (n : ℕ) → n < 2 ^ 32 → is_word (value_word k n) ≡ true
 unfolding value_word
 value_printed kind.Hexadecimal n fits = hexadecimal_word n fits
@@ -156,7 +156,7 @@ unfolding bytes_word encode_with
 bytes_printed [] fits = refl
 bytes_printed (b ∷ bytes) fits = encoded (b ∷ bytes) fits
 
--- rows of words
+-- Lists of words.
 pub printed_both : (a b : List (List ℕ)) → are_words a ≡ true → are_words b ≡ true → are_words (a ++ b) ≡ true
 printed_both [] b first second = second
 printed_both (w ∷ ws) b first second =
@@ -200,7 +200,7 @@ optional_bytes_printed label [] is fits = refl
 optional_bytes_printed label (b ∷ bytes) is fits =
     two label (bytes_word (b ∷ bytes)) is (bytes_printed (b ∷ bytes) fits)
 
--- rows of words, one after another
+-- Lists of words, one after another.
 record AreWords (ws : List (List ℕ)) : Type 0 where
   is : are_words ws ≡ true
 
@@ -264,7 +264,7 @@ message_printed m fits =
           (header_printed (header_of m) (fits_header m fits)) (body_printed (drop 24 m) (bytes_after 24 m fits))
     ]
 
--- the words of a call
+-- The words of a call.
 verb_printed : (v : Verb) → is_word (verb_word v) ≡ true
 verb_printed verb.Attach = refl
 verb_printed v = refl
@@ -323,7 +323,7 @@ plain_call_printed : (c : PlainCall) → HasPlainLine c → are_words (plain_cal
 unfolding plain_call_words
 plain_call_printed c fits = both _ _ (verb_printed (verb_of c)) (arguments_printed c fits)
 
--- the words of a reply
+-- The words of a reply.
 code_printed : (c : KernReturn) → is_word (code_word c) ≡ true
 code_printed code.Success = refl
 code_printed c = refl

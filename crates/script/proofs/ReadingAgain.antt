@@ -1,4 +1,4 @@
--- Words are read back as what they were printed for.
+-- Words are read as the values for which they were printed.
 use Rattle.std.proofs.Common.{◌≡◌, ℕ, ◌^◌, ◌<◌, ◌≤◌, Bool, true, false, ◌==◌, List, [], ◌∷◌, ◌++◌, cond, refl, sym, ap, ◌∙◌, arith, Option, Some, None, Ok}
 use Rattle.std.specs.Prelude.{nat_lt}
 use Rattle.std.specs.Str.{bytes_eq}
@@ -18,7 +18,7 @@ use Rattle.script.specs.declared.fault.Expected.TheVariants.{Number, Label, Byte
 use Rattle.script.specs.Reading.{Reading, ◌>>=◌, wanted, number_at, value_at, if_below, bounded_at, label_at, labelled_at, optional_at, flag_at}
 use Rattle.script.proofs.ValuesAgain.{word_again, bytes_again}
 
--- what a number's word is read as
+-- the word of a number is read as the number
 abbrev pub IsNumber : Kind → Type 0
 IsNumber kind.Absent = ⊥
 IsNumber k = Unit {0}
@@ -84,7 +84,7 @@ unfolding flag_at flag_words
 flag_again label true ws none = rw (label_again label ws, flag_at) refl
 flag_again label false ws none = rw (none, flag_at) refl
 
--- another label is passed over
+-- another label is skipped
 pub past_optional : (label other : List ℕ) (k : Kind) (n : ℕ) (ws : List (List ℕ)) → bytes_eq other label ≡ false
     → label_at label ws ≡ None
     → label_at label (optional_words other k n ++ ws) ≡ None
@@ -123,7 +123,7 @@ optional_bytes_again label [] ws fits none = rw (none, optional_bytes_at) refl
 optional_bytes_again label (b ∷ bytes) ws fits none =
     rw (label_again label (bytes_word (b ∷ bytes) ∷ ws), optional_bytes_at) (bytes_at_again (b ∷ bytes) ws fits)
 
--- words whose first isn't one that begins with a letter, and isn't a number
+-- the first word, if there is one, is neither a label that begins with a letter nor a number
 abbrev pub NoLabel : List (List ℕ) → Type 0
 NoLabel ws =
     ((label : List ℕ) → begins_with_letter label ≡ true → label_at label ws ≡ None) × (numbers_at ws ≡ ([], ws))
@@ -137,7 +137,7 @@ sign_apart : (c : ℕ) (cs : List ℕ) (ws : List (List ℕ)) → c < 97 → (la
 sign_apart c cs ws sign [] letter = other_label [] (c ∷ cs) ws refl
 sign_apart c cs ws sign (d ∷ ds) letter = other_label (d ∷ ds) (c ∷ cs) ws (grind (arith, nat_tests))
 
--- a word that is no number ends a row of them
+-- a word that isn't a number ends a list of numbers
 pub numbers_end : (word : List ℕ) (ws : List (List ℕ)) → read_word kind.Hexadecimal word ≡ None
     → numbers_at (word ∷ ws) ≡ ([], word ∷ ws)
 unfolding numbers_at

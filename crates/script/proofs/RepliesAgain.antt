@@ -161,7 +161,7 @@ silent_no_label size member [] is =
     rw (numbers.0, numbers.1) no_label_end
 silent_no_label size member (b ∷ message) is = absurd (grind (arith, nat_tests))
 
--- what a mach_msg answered
+-- The reply to a mach_msg.
 mach_msg_again : (c : KernReturn) (size member : ℕ) (message : List ℕ) → size < 2 ^ 32 → member < 2 ^ 32
     → AreBytes message
     → plain_reply_at 19 (message_reply_words c size member message) ≡ Ok (reply.Message c size member message)
@@ -183,7 +183,7 @@ mach_msg_again c size member message fits fits_member bytes =
     (optional_words (codes "member") Hexadecimal member) (received_words message))
     ∙ results_again c size member message fits fits_member bytes)
 
--- the results of any other call
+-- The results of other calls.
 one_value : (k : Kind) (n : ℕ) → IsNumber k → n < 2 ^ 32 → last_value k (value_word k n ∷ []) ≡ Ok n
 unfolding last_value last
 one_value k n number fits = rw (value_again k n [] number fits) refl
@@ -245,7 +245,7 @@ plain_reply_again (reply.Message c size member message) fits own =
     mach_msg_again c size member message fits.0 fits.1 fits.2
 plain_reply_again (reply.SpaceCreated space name) fits own = space_created_again space name fits.0 fits.1
 
--- nothing after a call begins with a label
+-- the words after a call don't begin with a label
 plain_reply_no_label : (r : PlainReply) → NoLabel (plain_reply_words r)
 unfolding message_reply_words outcome_words
 plain_reply_no_label (reply.Refused n c) = no_label_sign 33 [] (code_word c ∷ []) (omega arith) no_number_sign.0

@@ -1,4 +1,4 @@
--- Rows that are read one after another.
+-- Lists that are read one element after another.
 use Rattle.std.proofs.Common.{◌≡◌, ℕ, suc, ◌<◌, List, [], ◌∷◌, ◌++◌, length, refl, sym, ap, ◌∙◌, arith, Option, Some, None, Ok, Err, append_assoc, append-nil}
 use Rattle.ipc_model.specs.declared.plain_reply.NamedType.{NamedType}
 use Rattle.script_words.specs.declared.kind.Kind.TheVariants.{Hexadecimal}
@@ -10,7 +10,7 @@ use Rattle.script.specs.declared.fault.Stop.{Stop}
 use Rattle.script.specs.Reading.{Reading, ◌>>=◌, stop, wanted, number_at, value_at, Fails}
 use Rattle.script.specs.Replies.{in_front_of, named_at, member_at, names_at, members_at}
 
--- what is read, after what was read before
+-- the elements that are read, after those that were read before
 abbrev pub after_all : {A : Type 0} → List A → Reading (List A) → Reading (List A)
 after_all done read = read >>= λ rest. Ok (done ++ rest)
 
@@ -29,7 +29,7 @@ named n = value_at Hexadecimal n.1 >>= typed n.0
 abbrev one : ℕ × List (List ℕ) → Reading (Option (ℕ × List (List ℕ)))
 one n = Ok (Some n)
 
--- a number takes the first word
+-- a number uses up the first word
 value_front : (w : List ℕ) (words : List (List ℕ))
     → value_at Hexadecimal (w ∷ words)
     ≡ (wanted Number (w ∷ words) (read_word Hexadecimal w) >>= λ (n : ℕ). Ok (n, words))
@@ -106,7 +106,7 @@ pub members_stop : (done : List ℕ) (words : List (List ℕ)) (place : Stop) �
     → after_all done (members_at words) ≡ Err place
 members_stop done words place e = ap (after_all done) (members_unroll words ∙ ap (after_one members_at) e)
 
--- each read takes words
+-- each element uses up words
 bind_some : {A B : Type 0} (o : Reading A) (f : A → Reading B) (y : B) → (o >>= f) ≡ Ok y → (x : A) × (o ≡ Ok x)
     × (f x ≡ Ok y)
 bind_some (Err place) f y e = absurd (cc)

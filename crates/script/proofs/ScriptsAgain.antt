@@ -23,7 +23,7 @@ use Rattle.script.specs.Scripts.{in_line, script_text, numbered, lines_of, and_b
 use Rattle.script.proofs.LinesAgain.{words_of_exchange, line_read_again}
 use Rattle.script.proofs.Printed.{call_printed, reply_printed, printed_both}
 
--- no byte ends a line
+-- no byte is the end of a line
 abbrev are_in_line : List ℕ → Bool
 are_in_line [] = true
 are_in_line (c ∷ cs) = in_line c && are_in_line cs
@@ -69,7 +69,7 @@ exchange_in_line x is =
     (printed_both (call_words x.call) (reply_words x.reply) (call_printed x.call is.call)
     (reply_printed x.reply is.reply))
 
--- a line goes on to its end
+-- a line reaches up to its end
 line_length : (line rest : List ℕ) → are_in_line line ≡ true → prefix_len in_line (line ++ 10 ∷ rest) ≡ length line
 line_length [] rest are = refl
 line_length (c ∷ cs) rest are =
@@ -81,7 +81,7 @@ drop_seam : (xs ys : List ℕ) → drop (length xs) (xs ++ ys) ≡ ys
 drop_seam [] ys = refl
 drop_seam (x ∷ xs) ys = drop_seam xs ys
 
--- the first line of a script, and what comes after it
+-- the first line of a script, and the rest
 script_starts : (x : Exchange) (xs : List Exchange) → script_text (x ∷ xs) ≡ exchange_line x ++ 10 ∷ script_text xs
 unfolding script_text
 script_starts x xs = append_assoc (exchange_line x) (10 ∷ []) (script_text xs)
@@ -134,7 +134,7 @@ pub lines_next : (text line beyond : List ℕ) → (text ≡ [] → ⊥) → lin
 lines_next [] line beyond some first rest = absurd (some refl)
 lines_next (c ∷ cs) line beyond some first rest = rw (first, rest) (lines_front c cs)
 
--- what a script says, after calls that were read
+-- the contents of a script, after calls that were read
 abbrev pub after_lines : List Line → Result (List Line) ScriptFault → Result (List Line) ScriptFault
 after_lines done below = below >>= λ lines. Ok (done ++ lines)
 
@@ -155,7 +155,7 @@ unfolding lines_read
 next_read old new n text line beyond is added =
     rw is (next_line old new (n + 1) (line_read line) (lines_read (n + 1 + 1) (lines_of beyond)) added)
 
--- the fault of the next line is the script's
+-- the fault of the next line is the script's fault
 pub next_fault : (fault : LineFault) (old : List Line) (n : ℕ) (text line beyond : List ℕ)
     (all : Result (List Line) ScriptFault) → lines_of text ≡ line ∷ lines_of beyond
     → IsFault fault fault (line_read line) → after_lines old (lines_read (n + 1) (lines_of text)) ≡ all
@@ -170,7 +170,7 @@ pub none_left : (lines : List Line) (n : ℕ) (text : List ℕ) → text ≡ []
 unfolding lines_read lines_of
 none_left lines n text is = rw is (ap Ok (append-nil lines))
 
--- a script that was printed says what it was printed for
+-- a printed script has the calls for which it was printed
 pub script_again : (n : ℕ) (xs : List Exchange) → AreExchanges xs
     → lines_read n (lines_of (script_text xs)) ≡ Ok (numbered n xs)
 unfolding lines_read lines_of script_text numbered
@@ -188,7 +188,7 @@ script_again n (x ∷ xs) are =
     (line_read_again (exchange_line x) x (words_of_exchange x fits) fits)
     ∙ ap (λ (r : Result (List Line) ScriptFault). and_below n (Ok (Some x)) r) (script_again (n + 1) xs others)
 
--- for a script that was printed, the only fault is that memory runs out
+-- the only fault of a printed script is out of memory
 pub printed_ok : (xs : List Exchange) (text : List ℕ) (lines : List Line) → AreExchanges xs → text ≡ script_text xs
     → script_read text ≡ Ok lines → lines ≡ numbered 1 xs
 printed_ok xs text lines are is read =

@@ -1,4 +1,4 @@
--- Numbers and bytes are read back from the words that they are printed as.
+-- Numbers and bytes are read from the words that were printed for them.
 use Rattle.std.proofs.Common.{◌≡◌, ℕ, ◌-◌, ◌^◌, ◌<◌, Bool, true, false, ◌==◌, List, [], ◌∷◌, ◌++◌, cond, refl, sym, ap, subst, ◌∙◌, arith, Option, Some, None}
 use Rattle.std.specs.Prelude.{nat_lt, codes, decimal, find, unwrap_or, Ok}
 use Rattle.std.specs.Result.{result_ok}
@@ -48,7 +48,7 @@ printed k n word plain again =
 pub in_decimal : (k : Kind) (n : ℕ) → n < 2 ^ 32 → read_word k (decimal n) ≡ Some n
 in_decimal k n fits = printed k n (decimal n) (decimal_no_letter n fits) (decimal_again n fits)
 
--- a number that is a named one, or isn't
+-- a number with a word, or without one
 split : (P : ℕ → Option (List ℕ) → Type 0) (m n : ℕ) (word : List ℕ) (rest : Option (List ℕ)) → P m (Some word)
     → P n rest → P n (cond (n == m) (Some word) rest)
 split P m n word rest here there = elim (n == m) as (λ (b : Bool). (n == m) ≡ b → P n (cond b (Some word) rest)) [
@@ -56,7 +56,7 @@ split P m n word rest here there = elim (n == m) as (λ (b : Bool). (n == m) ≡
   | false ↦ λ (_ : _). there
 ] refl
 
--- what the number is read as, from the word that stands for it
+-- a number is read from its word
 abbrev Again : Kind → ℕ → Option (List ℕ) → Type 0
 Again k n name = read_word k (unwrap_or name (decimal n)) ≡ Some n
 

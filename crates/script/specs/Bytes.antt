@@ -13,6 +13,6 @@ unfoldable pub bytes_at : List (List ℕ) → Reading (List ℕ × List (List �
 bytes_at [] = stop expected.Bytes []
 bytes_at (word ∷ words) = wanted expected.Bytes (word ∷ words) (read_bytes word) >>= λ bytes. Ok (bytes, words)
 
--- the bytes after their label, or none where it is missing
+-- the bytes after their label, or none if the label is missing
 unfoldable pub optional_bytes_at : List ℕ → List (List ℕ) → Reading (List ℕ × List (List ℕ))
 optional_bytes_at label words = elim (label_at label words) [ None ↦ Ok ([], words) | Some rest ↦ bytes_at rest ]

@@ -16,7 +16,7 @@ use Rattle.script.specs.Plain.{plain_at}
 use Rattle.script.specs.declared.fault.Expected.TheVariants as expected
 use Rattle.script.specs.Reading.{Reading, ◌>>=◌, stop, wanted, value_at, label_at, labelled_at, flag_at}
 
--- a call that has a line, and isn't numbered: its numbers have four bytes each, and a message is any bytes
+-- a call that has a line and isn't numbered: its numbers fit four bytes each, and a message is any bytes
 abbrev pub HasPlainLine : PlainCall → Type 0
 HasPlainLine (call.Send message) = AreBytes message
 HasPlainLine c = FitsCall c
@@ -46,7 +46,7 @@ plain_call_at (word ∷ words) =
     wanted expected.CallName (word ∷ words)
     (find (λ v. bytes_eq (verb_word v) word) all_verbs) >>= λ v. after_at v words
 
--- a call that has a line; one that is numbered has a number of four bytes
+-- a call that has a line; the request of a numbered one fits four bytes
 abbrev pub HasLine : Call → Type 0
 HasLine (Plain c) = HasPlainLine c
 HasLine (Numbered numbered) = (numbered.request < 2 ^ 32) × HasPlainLine numbered.call
@@ -55,7 +55,7 @@ HasLine Unnumberable = ⊥
 unfoldable pub own_call_at : List (List ℕ) → Reading (Call × List (List ℕ))
 own_call_at words = plain_call_at words >>= λ c. Ok (Plain c.0, c.1)
 
--- the request, and the call that is numbered
+-- the request and the numbered call
 unfoldable pub numbered_at : List (List ℕ) → Reading (Call × List (List ℕ))
 numbered_at words = do
   request ← value_at Decimal words

@@ -9,12 +9,12 @@ use Rattle.script.specs.Items.{body_at}
 use Rattle.script.specs.declared.fault.Expected.TheVariants as expected
 use Rattle.script.specs.Reading.{Reading, ◌>>=◌, value_at, bounded_at, label_at, labelled_at, optional_at, flag_at}
 
--- a message made of them and a body
+-- the encoding of a header followed by a body
 unfoldable pub header_encoding : Header → List ℕ → List ℕ
 header_encoding h body =
     word h.bits ++ word h.size ++ word h.remote ++ word h.local ++ word h.seqno ++ word h.id ++ body
 
--- the bits without a meaning
+-- the bits of a header that have no meaning
 unfoldable pub further_at : List (List ℕ) → Reading (ℕ × List (List ℕ))
 further_at words = elim (label_at (codes "bits") words)
     [ None ↦ Ok (0, words) | Some rest ↦ bounded_at expected.Number Hexadecimal 0x8000 rest ]

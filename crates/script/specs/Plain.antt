@@ -14,7 +14,7 @@ use Rattle.script.specs.Reading.{Reading, ◌>>=◌, wanted, value_at}
 abbrev pub three_kinds : Kind → Kind → Kind → Kinds
 three_kinds a b c = record { first = a; second = b; third = c; fourth = Absent; fifth = Absent }
 
--- how the arguments of a call are written
+-- the kinds of a call's arguments
 abbrev pub kinds_of : Verb → Kinds
 kinds_of verb.Attach = three_kinds Decimal Absent Absent
 kinds_of verb.Names = three_kinds Absent Absent Absent
@@ -41,7 +41,7 @@ kinds_of verb.Receive = three_kinds Absent Absent Absent
 kinds_of verb.SpaceCreate = three_kinds Hexadecimal Disposition Absent
 kinds_of verb.SpaceDestroy = three_kinds Absent Absent Absent
 
--- calls of one argument or none, of two, and of more
+-- calls with at most one argument, with two, and with more
 abbrev pub short_call : Verb → ℕ → Option PlainCall
 short_call verb.Attach space = Some (call.Attach space)
 short_call verb.Names name = Some call.Names
@@ -72,7 +72,7 @@ long_call verb.RequestNotification a = Some (call.RequestNotification a.first a.
 long_call verb.InsertRight a = Some (call.InsertRight a.first a.second a.third)
 long_call v a = None
 
--- the call of a verb with its arguments, for each verb except those of mach_msg
+-- the call of a verb with its arguments, except those of mach_msg
 abbrev pub plain_call : Verb → Arguments → Option PlainCall
 plain_call v a =
     elim (short_call v a.first) [
@@ -91,7 +91,7 @@ arguments_at kinds words = do
   e ← value_at kinds.fifth d.1
   Ok (record { first = a.0; second = b.0; third = c.0; fourth = d.0; fifth = e.0 }, e.1)
 
--- the call that they make
+-- the call of a verb with the arguments at the front
 unfoldable pub plain_at : Verb → List (List ℕ) → Reading (PlainCall × List (List ℕ))
 plain_at v words = do
   a ← arguments_at (kinds_of v) words

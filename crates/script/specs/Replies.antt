@@ -134,7 +134,7 @@ space_created_at words = do
 unfoldable pub last_status_at : List (List ℕ) → Reading PlainReply
 last_status_at words = status_at words >>= λ status. last (reply.ReceiveStatus status.0, status.1)
 
--- the results of a call of this number
+-- the results of a call with this number
 unfoldable pub results_at : ℕ → List (List ℕ) → Reading PlainReply
 results_at n words =
     if n == MACH_PORT_NAMES then (names_at words >>= λ names. Ok (reply.Names names))
@@ -150,14 +150,14 @@ results_at n words =
     else if n == SPACE_CREATE then space_created_at words
     else stop expected.End words
 
--- a call of this number has results that the line has to have
+-- a call with this number has results, which its line must contain
 abbrev pub has_results : ℕ → Bool
 has_results n =
     n == MACH_PORT_NAMES || n == MACH_PORT_TYPE || n == MACH_PORT_ALLOCATE || n == MACH_PORT_GET_REFS ||
     n == MACH_PORT_GET_RECEIVE_STATUS || n == MACH_PORT_GET_SET_STATUS || n == MACH_PORT_REQUEST_NOTIFICATION ||
     n == MACH_PORT_EXTRACT_RIGHT || n == SPACE_CREATE || n == NUMBERED
 
--- the reply of a line that gives none
+-- the reply of a line that contains none
 unfoldable pub silence : ℕ → List (List ℕ) → Reading PlainReply
 silence n words =
     if has_results n then stop expected.Results words else if n == MACH_MSG then Ok (reply.Message Success 0 0 [])
@@ -169,7 +169,7 @@ refusal_at n (word ∷ words) =
     wanted expected.Code (word ∷ words) (find (λ code. bytes_eq (code_word code) word) all_codes) >>= λ code.
     if n == MACH_MSG then message_reply_at code words else last (reply.Refused n code, words)
 
--- what a call of this number answered, if it isn't numbered: a call without results has no `=` after it
+-- the reply to a call with this number that isn't numbered; without results no `=` follows the call
 unfoldable pub plain_reply_at : ℕ → List (List ℕ) → Reading PlainReply
 plain_reply_at n [] = silence n []
 plain_reply_at n (word ∷ words) =
@@ -178,7 +178,7 @@ plain_reply_at n (word ∷ words) =
     else if bytes_eq word (codes "!") then refusal_at n words
     else stop expected.Results (word ∷ words)
 
--- the reply is one of a call of its own number
+-- a refusal isn't of mach_msg, and a reply without results is neither to mach_msg nor to a call that has results
 abbrev pub IsPlainOwn : PlainReply → Type 0
 IsPlainOwn (reply.Refused number code) = number ≢ MACH_MSG
 IsPlainOwn (reply.Done number) = IsTrue (not (has_results number || number == MACH_MSG))
@@ -187,26 +187,26 @@ IsPlainOwn answer = Unit {0}
 unfoldable pub own_reply_at : ℕ → List (List ℕ) → Reading Reply
 own_reply_at n words = plain_reply_at n words >>= λ r. Ok (variants.Plain r)
 
--- the request, and what a call of this number answered, which is numbered
+-- the request, and the reply to the numbered call with this number
 unfoldable pub made_at : ℕ → List (List ℕ) → Reading Reply
 made_at n words = do
   request ← value_at Decimal words
   r ← plain_reply_at n request.1
   Ok (variants.Numbered (record { request = request.0; reply = r }))
 
--- what number 22 answered, by which a call of this number is numbered: it was made, or refused
+-- the reply of number 22 to a numbered call with this number: the call was made, or refused
 unfoldable pub numbered_reply_at : ℕ → List (List ℕ) → Reading Reply
 numbered_reply_at n words =
     elim (label_at (codes ":") words) [ None ↦ own_reply_at NUMBERED words | Some rest ↦ made_at n rest ]
 
--- what a call answered
+-- the reply to a call
 unfoldable pub reply_at : Call → List (List ℕ) → Reading Reply
 reply_at (Plain c) words = own_reply_at (number_of_call c) words
 reply_at (Numbered numbered) words = numbered_reply_at (number_of_call numbered.call) words
 reply_at Unnumberable words = own_reply_at NUMBERED words
 
--- The reply is one of a call of its own number, and a reply of number 22 to a call that was made has one of the call
--- that is numbered. That it was made before isn't seen.
+-- The same for all replies. The reply to a numbered call that was made contains a reply to the call itself. A repeated
+-- reply is never read.
 abbrev pub IsOwn : Reply → Type 0
 IsOwn (variants.Plain answer) = IsPlainOwn answer
 IsOwn (variants.Numbered answer) = IsPlainOwn answer.reply

@@ -1,4 +1,4 @@
--- Scripts: lines, one below the other.
+-- Scripts: lines, one after another.
 use Rattle.std.specs.Prelude.{◌≡◌, ℕ, ◌+◌, Bool, not, ◌==◌, List, [], ◌∷◌, ◌++◌, All, flat_map, Option, None, Some, Result, Ok, Err, if◌then◌else◌}
 use Rattle.script_words.specs.Spaced.{in_front}
 use Rattle.script_printing.specs.declared.line.Exchange.{Exchange}
@@ -10,7 +10,7 @@ use Rattle.script.specs.declared.text.Line.{Line}
 use Rattle.script.specs.Lines.{line_read, IsExchange}
 use Rattle.script.specs.Reading.{◌>>=◌}
 
--- a byte of a line
+-- a byte of a line, which isn't its end
 abbrev pub in_line : ℕ → Bool
 in_line c = not (c == 10)
 
@@ -31,30 +31,30 @@ unfoldable pub lines_of : List ℕ → List (List ℕ)
 lines_of [] = []
 lines_of (c ∷ cs) = if c == 10 then [] ∷ lines_of cs else in_front c (lines_of cs)
 
--- what a line with this number says, before what those below it say
+-- the contents of a line with this number, followed by those of the lines after it
 abbrev pub and_below : ℕ → Result (Option Exchange) LineFault → Result (List Line) ScriptFault
     → Result (List Line) ScriptFault
 and_below n (Err fault) below = Err (record { line = n; fault = fault })
 and_below n (Ok None) below = below
 and_below n (Ok (Some x)) below = below >>= λ lines. Ok (record { number = n; exchange = x } ∷ lines)
 
--- what lines say, of which the first has this number: each call with its line's number, or the fault of the first line
--- that has one
+-- the contents of lines, of which the first has this number: each call with its line's number, or the fault of the
+-- first line that has one
 unfoldable pub lines_read : ℕ → List (List ℕ) → Result (List Line) ScriptFault
 lines_read n [] = Ok []
 lines_read n (line ∷ lines) = and_below n (line_read line) (lines_read (n + 1) lines)
 
--- what a script says, line by line
+-- the contents of a script, line by line
 abbrev pub script_read : List ℕ → Result (List Line) ScriptFault
 script_read text = lines_read 1 (lines_of text)
 
--- A line's call is added, if it has one.
+-- The call of a line is appended, if it has one.
 abbrev pub Adds : List Line → List Line → ℕ → Result (Option Exchange) LineFault → Type 0
 Adds old new n (Ok (Some x)) = new ≡ old ++ record { number = n; exchange = x } ∷ []
 Adds old new n (Ok None) = new ≡ old
 Adds old new n (Err fault) = ⊥
 
--- The fault of an unreadable line is the script's; nothing is claimed if memory ran out.
+-- The fault of an unreadable line is the script's. Out of memory promises nothing.
 abbrev pub IsFault : {X F : Type 0} → LineFault → F → Result X F → Type 0
 IsFault (line_fault.Unreadable column expected) fault said = said ≡ Err fault
 IsFault line_fault.NoMemory fault said = Unit {0}

@@ -8,7 +8,7 @@ use hex::FromHexError;
 use script_words::take_word;
 use std::alloc::Global;
 
-/// The bytes in front, two hexadecimal digits each or `none`, and the text after them.
+/// Reads bytes, as two hexadecimal digits each or `none`, and returns the text after them.
 #[tactic(auto, unfolding(crate::specs::Bytes::bytes_at))]
 pub(crate) fn read_bytes(alloc: Global, text: &[u8]) -> Result<(Vec<u8>, &[u8]), Fault>
     ensures { Gives (λ r. (r.0.items, words_of r.1.now)) result (bytes_at (words_of text.now)) }
@@ -26,7 +26,7 @@ pub(crate) fn read_bytes(alloc: Global, text: &[u8]) -> Result<(Vec<u8>, &[u8]),
     }
 }
 
-/// The bytes after this word if it is the first, else none.
+/// Reads the bytes after this label, or returns no bytes if the first word isn't the label.
 #[tactic(auto, unfolding(crate::specs::Bytes::optional_bytes_at))]
 pub(crate) fn read_optional_bytes<'a>(
     alloc: Global,

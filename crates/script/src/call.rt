@@ -10,7 +10,7 @@ use ipc_model::{Call, NumberedCall, PlainCall, Sequence};
 use script_words::{Kind, Verb, large_word, take_word};
 use std::alloc::Global;
 
-/// The receive whose arguments are in front.
+/// Reads the arguments of a receive.
 #[tactic(auto, unfolding(crate::specs::Calls::receive_at))]
 fn read_receive(text: &[u8]) -> Result<(PlainCall, &[u8]), Fault>
     ensures { Gives (λ r. (r.0, words_of r.1.now)) result (receive_at (words_of text.now)) }
@@ -28,7 +28,7 @@ fn read_receive(text: &[u8]) -> Result<(PlainCall, &[u8]), Fault>
     Ok((call, rest))
 }
 
-/// The send whose message is in front.
+/// Reads the message of a send.
 #[tactic(auto, unfolding(crate::specs::Calls::send_at))]
 fn read_send(alloc: Global, text: &[u8]) -> Result<(PlainCall, &[u8]), Fault>
     ensures { Gives (λ r. (r.0, words_of r.1.now)) result (send_at (words_of text.now)) }
@@ -38,7 +38,7 @@ fn read_send(alloc: Global, text: &[u8]) -> Result<(PlainCall, &[u8]), Fault>
     Ok((PlainCall::Send { message }, rest))
 }
 
-/// The call of a verb whose arguments are in front.
+/// Reads the arguments of a verb's call.
 #[tactic(auto, unfolding(crate::specs::Calls::after_at))]
 fn read_after(alloc: Global, verb: Verb, text: &[u8]) -> Result<(PlainCall, &[u8]), Fault>
     ensures { Gives (λ r. (r.0, words_of r.1.now)) result (after_at verb (words_of text.now)) }
@@ -50,7 +50,7 @@ fn read_after(alloc: Global, verb: Verb, text: &[u8]) -> Result<(PlainCall, &[u8
     }
 }
 
-/// The call in front, which isn't numbered, and the text after it.
+/// Reads a call that isn't numbered, and returns the text after it.
 #[tactic(auto, unfolding(crate::specs::Calls::plain_call_at))]
 fn read_plain_call(alloc: Global, text: &[u8]) -> Result<(PlainCall, &[u8]), Fault>
     ensures { Gives (λ r. (r.0, words_of r.1.now)) result (plain_call_at (words_of text.now)) }
@@ -64,7 +64,7 @@ fn read_plain_call(alloc: Global, text: &[u8]) -> Result<(PlainCall, &[u8]), Fau
     }
 }
 
-/// The same, as a call that isn't numbered.
+/// Reads a call that isn't numbered as a `Call`.
 #[tactic(auto, unfolding(crate::specs::Calls::own_call_at))]
 fn read_own_call(alloc: Global, text: &[u8]) -> Result<(Call, &[u8]), Fault>
     ensures { Gives (λ r. (r.0, words_of r.1.now)) result (own_call_at (words_of text.now)) }
@@ -73,7 +73,7 @@ fn read_own_call(alloc: Global, text: &[u8]) -> Result<(Call, &[u8]), Fault>
     Ok((Call::Plain(call), rest))
 }
 
-/// The request in front and the call that is numbered, and the text after them.
+/// Reads the request and the numbered call after it.
 #[tactic(auto, unfolding(crate::specs::Calls::numbered_at))]
 fn read_numbered(alloc: Global, text: &[u8]) -> Result<(Call, &[u8]), Fault>
     ensures { Gives (λ r. (r.0, words_of r.1.now)) result (numbered_at (words_of text.now)) }
@@ -84,7 +84,7 @@ fn read_numbered(alloc: Global, text: &[u8]) -> Result<(Call, &[u8]), Fault>
     Ok((Call::Numbered(numbered), rest))
 }
 
-/// The call in front, and the text after it.
+/// Reads a call, and returns the text after it.
 #[tactic(auto, unfolding(crate::specs::Calls::call_at))]
 pub(crate) fn read_call(alloc: Global, text: &[u8]) -> Result<(Call, &[u8]), Fault>
     ensures { Gives (λ r. (r.0, words_of r.1.now)) result (call_at (words_of text.now)) }

@@ -6,12 +6,12 @@ use script_words::count_words;
 use std::error::Error;
 use std::fmt;
 
-/// What was expected where a line can't be read.
+/// What was expected at the place where reading stopped.
 #[derive(Clone, Copy, Debug, PartialEq, Eq)]
 pub enum Expected {
     /// The name of a call.
     CallName,
-    /// A number, or a word that stands for one there.
+    /// A number, or a word for one.
     Number,
     /// The bytes of a message, two hexadecimal digits each, or `none`.
     Bytes,
@@ -23,7 +23,7 @@ pub enum Expected {
     Code,
     /// `=` and the results of the call, or `!` and a return code.
     Results,
-    /// The word that says which result or which argument follows.
+    /// The label of the next result or argument.
     Label,
     /// `yes` or `no`.
     YesOrNo,
@@ -51,17 +51,17 @@ impl fmt::Display for Expected {
     }
 }
 
-/// Why a line can't be read.
+/// The reason why a line can't be read.
 #[derive(Clone, Copy, Debug, PartialEq, Eq)]
 pub enum LineFault {
-    /// After `column` bytes of the line something else was expected.
+    /// At byte `column` of the line something else was expected.
     Unreadable {
-        /// How many bytes stand in front of it.
+        /// The offset in bytes of that place.
         column: usize,
         /// What was expected there.
         expected: Expected,
     },
-    /// Out of memory for what the line holds.
+    /// Out of memory for the contents of the line.
     NoMemory,
 }
 
@@ -78,12 +78,12 @@ impl fmt::Display for LineFault {
 
 impl Error for LineFault {}
 
-/// Why a script can't be read.
+/// The reason why a script can't be read.
 #[derive(Clone, Copy, Debug, PartialEq, Eq)]
 pub struct ScriptFault {
     /// The number of the line, from 1.
     pub line: usize,
-    /// Why the line can't be read.
+    /// The fault of the line.
     pub fault: LineFault,
 }
 
@@ -97,26 +97,26 @@ impl fmt::Display for ScriptFault {
 
 impl Error for ScriptFault {}
 
-/// Where words can't be read.
+/// The place where reading words stopped.
 #[derive(Clone, Copy)]
 pub(crate) struct Stop {
-    /// How many words of the line are left there.
+    /// The number of words that were left.
     pub(crate) left: usize,
-    /// What was expected in front of them.
+    /// What was expected before them.
     pub(crate) expected: Expected,
 }
 
-/// Why words can't be read.
+/// The reason why words can't be read.
 #[derive(Clone, Copy)]
 pub(crate) enum Fault {
     /// Something else was expected.
     Unreadable(Stop),
-    /// Out of memory for what is read.
+    /// Out of memory for the contents.
     NoMemory,
 }
 
 impl Fault {
-    /// The fault that something else was expected in front of this text.
+    /// Returns the fault that something else was expected at the start of this text.
     pub(crate) fn expected(expected: Expected, text: &[u8]) -> Fault
         ensures { result ≡ Fault.Unreadable (stop_at expected (words_of text.now)) }
     {

@@ -14,10 +14,10 @@ use script_words::{BYTE_BITS, BYTE_TYPE, Kind, WORD_BITS, count_words, descripto
 use std::alloc::{AllocError, Global};
 use words::push_word;
 
-/// An item has fewer elements than this.
+/// Upper bound of an item's elements, exclusive.
 const ELEMENTS_END: usize = 0x1000;
 
-/// The numbers in front, up to a word that isn't one, and the text after them.
+/// Reads numbers up to a word that isn't one, and returns the text after them.
 fn read_numbers(alloc: Global, text: &[u8]) -> Result<(Vec<u32>, &[u8]), Fault>
     ensures { Gives (λ r. (r.0.items, words_of r.1.now)) result (Ok (numbers_at (words_of text.now))) }
 {
@@ -32,7 +32,7 @@ fn read_numbers(alloc: Global, text: &[u8]) -> Result<(Vec<u32>, &[u8]), Fault>
     Ok((numbers, rest))
 }
 
-/// Adds numbers, four bytes each.
+/// Appends numbers, four bytes each.
 fn push_words(out: &mut Vec<u8>, numbers: &[u32]) -> Result<(), AllocError>
     ensures { OnOk result (out.new.items ≡ out.old.items ++ flat_map word numbers.now) }
 {
@@ -44,7 +44,7 @@ fn push_words(out: &mut Vec<u8>, numbers: &[u32]) -> Result<(), AllocError>
     Ok(())
 }
 
-/// The bytes of an item of words.
+/// Returns the bytes of an item of words.
 fn words_item(alloc: Global, type_name: u32, numbers: &[u32]) -> Result<Vec<u8>, AllocError>
     requires type_name { type_name < 0x100 }
     requires number { length numbers.now < 0x1000 }
@@ -59,7 +59,7 @@ fn words_item(alloc: Global, type_name: u32, numbers: &[u32]) -> Result<Vec<u8>,
     Ok(item)
 }
 
-/// The bytes of an item of bytes.
+/// Returns the bytes of an item of bytes.
 fn bytes_item(alloc: Global, bytes: &[u8]) -> Result<Vec<u8>, AllocError>
     requires { length bytes.now < 0x1000 }
     ensures { IfOk result (λ item. item.items ≡ item_encoding (bytes_item bytes.now)) }
@@ -74,7 +74,7 @@ fn bytes_item(alloc: Global, bytes: &[u8]) -> Result<Vec<u8>, AllocError>
     Ok(item)
 }
 
-/// The item of words in front, and the text after its words.
+/// Reads an item of words, and returns the text after it.
 #[tactic(auto, unfolding(crate::specs::Items::words_item_at))]
 fn read_words_item(alloc: Global, text: &[u8]) -> Result<(Vec<u8>, &[u8]), Fault>
     ensures { Gives (λ r. (r.0.items, words_of r.1.now)) result (words_item_at (words_of text.now)) }
@@ -90,7 +90,7 @@ fn read_words_item(alloc: Global, text: &[u8]) -> Result<(Vec<u8>, &[u8]), Fault
     }
 }
 
-/// The item of the bytes in front, and the text after them.
+/// Reads an item of bytes, and returns the text after it.
 #[tactic(auto, unfolding(crate::specs::Items::bytes_item_at))]
 fn read_bytes_item(alloc: Global, text: &[u8]) -> Result<(Vec<u8>, &[u8]), Fault>
     ensures { Gives (λ r. (r.0.items, words_of r.1.now)) result (bytes_item_at (words_of text.now)) }
@@ -105,7 +105,7 @@ fn read_bytes_item(alloc: Global, text: &[u8]) -> Result<(Vec<u8>, &[u8]), Fault
     }
 }
 
-/// The item in front, and the text after its words.
+/// Reads an item, and returns the text after it.
 #[tactic(auto, unfolding(crate::specs::Items::item_at))]
 fn read_item(alloc: Global, text: &[u8]) -> Result<(Vec<u8>, &[u8]), Fault>
     ensures { Gives (λ r. (r.0.items, words_of r.1.now)) result (item_at (words_of text.now)) }
@@ -116,7 +116,7 @@ fn read_item(alloc: Global, text: &[u8]) -> Result<(Vec<u8>, &[u8]), Fault>
     }
 }
 
-/// A body that begins with these bytes, completed by the rest in front of the text, and the text after that.
+/// Reads the rest of a body that begins with these bytes, and returns the text after it.
 fn read_rest(alloc: Global, mut body: Vec<u8>, text: &[u8]) -> Result<(Vec<u8>, &[u8]), Fault>
     ensures { Gives (λ r. (r.0.items, words_of r.1.now)) result
         (after_bytes body.items (optional_bytes_at (codes "data") (words_of text.now))) }
@@ -128,7 +128,7 @@ fn read_rest(alloc: Global, mut body: Vec<u8>, text: &[u8]) -> Result<(Vec<u8>, 
     }
 }
 
-/// The body in front, and the text after its words.
+/// Reads a body, and returns the text after it.
 pub(crate) fn read_body(alloc: Global, text: &[u8]) -> Result<(Vec<u8>, &[u8]), Fault>
     ensures { Gives (λ r. (r.0.items, words_of r.1.now)) result (body_at (words_of text.now)) }
 {

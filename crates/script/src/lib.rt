@@ -1,4 +1,4 @@
-//! Lines and scripts read as calls and their answers, in the words of Mach's headers.
+//! Reads lines and scripts as calls and their replies, in the words of Mach's headers.
 #![tactic(auto)]
 
 mod bytes;

@@ -16,7 +16,7 @@ use script_printing::Exchange;
 use script_words::{column_of, count_words, take_word};
 use std::alloc::Global;
 
-/// The fault of a line.
+/// Returns the fault of a line.
 fn line_fault(line: &[u8], fault: Fault) -> LineFault
     ensures { result ≡ fault_of line.now fault }
 {
@@ -29,7 +29,7 @@ fn line_fault(line: &[u8], fault: Fault) -> LineFault
     }
 }
 
-/// The call of a line and its answer.
+/// Reads the call of a line and its reply.
 #[tactic(auto, unfolding(crate::specs::Lines::exchange_at))]
 fn read_words(alloc: Global, line: &[u8]) -> Result<Exchange, Fault>
     ensures { Gives (λ x. x) result (exchange_at (words_of line.now)) }
@@ -39,7 +39,7 @@ fn read_words(alloc: Global, line: &[u8]) -> Result<Exchange, Fault>
     Ok(Exchange { call, reply })
 }
 
-/// The call of a line that gives no answer.
+/// Reads the call of a line without a reply.
 #[tactic(auto, unfolding(crate::specs::Lines::request_at))]
 fn read_request_words(alloc: Global, line: &[u8]) -> Result<Call, Fault>
     ensures { Gives (λ x. x) result (request_at (words_of line.now)) }
@@ -51,15 +51,15 @@ fn read_request_words(alloc: Global, line: &[u8]) -> Result<Call, Fault>
     Ok(call)
 }
 
-/// The call of a line and its answer, or none if the line has no words: it is blank, or a comment. `Unreadable`: it
-/// isn't such a line. `NoMemory`: out of memory for a message, for names or for members.
+/// Reads the call of a line and its reply. Returns `None` if the line has no words: it is blank, or a comment.
+/// `Unreadable`: it isn't such a line. `NoMemory`: out of memory for a message, names or members.
 pub fn read_line(alloc: Global, line: &[u8]) -> Result<Option<Exchange>, LineFault>
     ensures only { (x : Exchange) → IsExchange x → line.now ≡ exchange_line x → IsRead result (Some x) }
-    // Whatever stands between the words, and with a comment after them.
+    // The spaces between the words, and a comment after them, don't matter.
     ensures spaced { (x : Exchange) → IsExchange x → words_of line.now ≡ exchange_words x → IsRead result (Some x) }
     ensures blank { words_of line.now ≡ [] → result ≡ Ok None }
-    // Any other line also gives what the grammar says of its words, or where it stops being a line and what is missing
-    // there.
+    // Any other line gives the result of the grammar for its words, or the place where reading stops and what was
+    // expected there.
     ensures read { UnlessMemory result (line_read line.now) }
 {
     let Some(_) = take_word(line) else {
@@ -71,7 +71,7 @@ pub fn read_line(alloc: Global, line: &[u8]) -> Result<Option<Exchange>, LineFau
     }
 }
 
-/// The call of a line that gives no answer. `Unreadable`: it isn't such a line, or it has no words, or an answer.
+/// Reads the call of a line without a reply. `Unreadable`: it isn't such a line, or it has no words, or a reply.
 /// `NoMemory`: out of memory for a message.
 pub fn read_request_line(alloc: Global, line: &[u8]) -> Result<Call, LineFault>
     ensures only { (c : Call) → HasLine c → line.now ≡ call_line c → IsRead result c }

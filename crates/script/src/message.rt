@@ -22,7 +22,7 @@ pub(crate) struct Rights {
     pub(crate) local: u32,
 }
 
-/// The bits of a header that stand for nothing, or 0.
+/// Reads the bits of a header that have no meaning, or returns 0.
 #[tactic(auto, unfolding(crate::specs::Messages::further_at))]
 fn read_further(text: &[u8]) -> Result<(u32, &[u8]), Fault>
     ensures read { Gives (λ r. (r.0, words_of r.1.now)) result (further_at (words_of text.now)) }
@@ -34,7 +34,7 @@ fn read_further(text: &[u8]) -> Result<(u32, &[u8]), Fault>
     }
 }
 
-/// The right for the reply: its disposition and its name, or 0 and 0.
+/// Reads the disposition and the name of the reply right, or returns 0 and 0.
 #[tactic(auto, unfolding(crate::specs::Messages::local_at))]
 fn read_local(text: &[u8]) -> Result<(u32, u32, &[u8]), Fault>
     ensures read { Gives (λ r. (r.0, r.1, words_of r.2.now)) result (local_at (words_of text.now)) }
@@ -48,7 +48,7 @@ fn read_local(text: &[u8]) -> Result<(u32, u32, &[u8]), Fault>
     Ok((disposition, name, rest))
 }
 
-/// The rights of a header.
+/// Reads the rights of a header.
 #[tactic(auto, unfolding(crate::specs::Messages::rights_at))]
 fn read_rights(text: &[u8]) -> Result<(Rights, &[u8]), Fault>
     ensures read { Gives (λ r. (r.0, words_of r.1.now)) result (rights_at (words_of text.now)) }
@@ -71,7 +71,7 @@ fn read_rights(text: &[u8]) -> Result<(Rights, &[u8]), Fault>
     Ok((rights, rest))
 }
 
-/// The bits of a header.
+/// Returns the bits of a header.
 fn bits_of(rights: Rights, further: u32, complex: bool) -> u32
     requires remote { rights.remote_disposition < 0x100 }
     requires local { rights.local_disposition < 0x100 }
@@ -82,7 +82,7 @@ fn bits_of(rights: Rights, further: u32, complex: bool) -> u32
     if complex { bits + 0x8000_0000 } else { bits }
 }
 
-/// The header of a message, and the text after its words.
+/// Reads the header of a message, and returns the text after it.
 #[tactic(auto, unfolding(crate::specs::Messages::header_at))]
 fn read_header(text: &[u8]) -> Result<(Header, &[u8]), Fault>
     ensures { Gives (λ r. (r.0, words_of r.1.now)) result (header_at (words_of text.now)) }
@@ -104,7 +104,7 @@ fn read_header(text: &[u8]) -> Result<(Header, &[u8]), Fault>
     Ok((header, rest))
 }
 
-/// The bytes of a header with its body.
+/// Returns the bytes of a header with its body.
 #[tactic(auto, unfolding(crate::specs::Messages::header_encoding))]
 fn message_of(alloc: Global, header: &Header, body: &[u8]) -> Result<Vec<u8>, AllocError>
     ensures { IfOk result (λ message. message.items ≡ header_encoding header.now body.now) }
@@ -120,7 +120,7 @@ fn message_of(alloc: Global, header: &Header, body: &[u8]) -> Result<Vec<u8>, Al
     Ok(message)
 }
 
-/// The message in front, and the text after its words.
+/// Reads a message, and returns the text after it.
 #[tactic(auto, unfolding(crate::specs::Messages::message_at))]
 pub(crate) fn read_message(alloc: Global, text: &[u8]) -> Result<(Vec<u8>, &[u8]), Fault>
     ensures { Gives (λ r. (r.0.items, words_of r.1.now)) result (message_at (words_of text.now)) }

@@ -8,7 +8,7 @@ use crate::values::read_value;
 use ipc_model::PlainCall;
 use script_words::{Kind, Verb};
 
-/// How the arguments of a call are written, with `Absent` after the last.
+/// The kinds of a call's arguments, with `Absent` after the last.
 #[derive(Clone, Copy)]
 pub(crate) struct Kinds {
     pub(crate) first: Kind,
@@ -52,7 +52,7 @@ fn kinds_of_notification() -> Kinds
     }
 }
 
-/// The kinds of a call's arguments, for every call but `mach_msg`.
+/// Returns the kinds of a call's arguments, for every call except `mach_msg`.
 fn kinds_of(verb: Verb) -> Kinds
     ensures { result ≡ kinds_of verb }
 {
@@ -102,7 +102,7 @@ fn read_arguments(kinds: Kinds, text: &[u8]) -> Result<(Arguments, &[u8]), Fault
     Ok((arguments, rest))
 }
 
-/// The call that has at most one argument.
+/// Returns the call with at most one argument.
 fn short_call(verb: Verb, first: u32) -> Option<PlainCall>
     ensures { result ≡ short_call verb first }
 {
@@ -120,7 +120,7 @@ fn short_call(verb: Verb, first: u32) -> Option<PlainCall>
     })
 }
 
-/// The call that has two arguments, the first of which is a name in all but one.
+/// Returns the call with two arguments. In all but one call the first one is a name.
 fn pair_call(verb: Verb, name: u32, second: u32) -> Option<PlainCall>
     ensures { result ≡ pair_call verb name second }
 {
@@ -160,7 +160,7 @@ fn pair_call(verb: Verb, name: u32, second: u32) -> Option<PlainCall>
     })
 }
 
-/// The call that has more arguments.
+/// Returns the call with more than two arguments.
 fn long_call(verb: Verb, arguments: Arguments) -> Option<PlainCall>
     ensures { result ≡ long_call verb arguments }
 {
@@ -187,7 +187,7 @@ fn long_call(verb: Verb, arguments: Arguments) -> Option<PlainCall>
     })
 }
 
-/// The call of a verb with these arguments, for every call but `mach_msg`.
+/// Returns the call of a verb with these arguments, for every call except `mach_msg`.
 fn plain_call(verb: Verb, arguments: Arguments) -> Option<PlainCall>
     ensures { result ≡ plain_call verb arguments }
 {
@@ -200,7 +200,7 @@ fn plain_call(verb: Verb, arguments: Arguments) -> Option<PlainCall>
     long_call(verb, arguments)
 }
 
-/// The call of a verb with the arguments in front of a text, for every call but `mach_msg`.
+/// Reads the arguments of a verb's call, for every call except `mach_msg`.
 #[tactic(auto, unfolding(crate::specs::Plain::plain_at))]
 pub(crate) fn read_plain(verb: Verb, text: &[u8]) -> Result<(PlainCall, &[u8]), Fault>
     ensures { Gives (λ r. (r.0, words_of r.1.now)) result (plain_at verb (words_of text.now)) }

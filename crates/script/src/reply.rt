@@ -18,7 +18,7 @@ use ipc_model::{
 use script_words::{Kind, code_of_word, take_word};
 use std::alloc::Global;
 
-/// The same, if no word is left.
+/// Returns the value, if no word is left.
 #[tactic(auto, unfolding(crate::specs::Reading::last))]
 fn last<X: Drop>(found: X, text: &[u8]) -> Result<X, Fault>
     ensures { Gives (λ x. x) result (last (found, words_of text.now)) }
@@ -68,7 +68,7 @@ fn read_kind(text: &[u8]) -> Result<(RightKind, &[u8]), Fault>
     }
 }
 
-/// The state of a port of which the last three answers are still to be read.
+/// Reads the state of a port up to its last three flags.
 #[tactic(auto, unfolding(crate::specs::Replies::counts_at))]
 fn read_counts(text: &[u8]) -> Result<(ReceiveStatus, &[u8]), Fault>
     ensures { Gives (λ r. (r.0, words_of r.1.now)) result (counts_at (words_of text.now)) }
@@ -110,7 +110,7 @@ fn read_status(text: &[u8]) -> Result<(ReceiveStatus, &[u8]), Fault>
     Ok((status, rest))
 }
 
-/// The name and the type in front, if a word is left, and the text after them.
+/// Reads a name and its type, if a word is left, and returns the text after them.
 #[tactic(auto, unfolding(crate::specs::Replies::named_at))]
 fn read_named(text: &[u8]) -> Result<Option<(NamedType, &[u8])>, Fault>
     ensures { Gives (λ r. option_map (λ n. (n.0, words_of n.1.now)) r) result (named_at (words_of text.now)) }
@@ -123,7 +123,7 @@ fn read_named(text: &[u8]) -> Result<Option<(NamedType, &[u8])>, Fault>
     Ok(Some((NamedType { name, bits }, rest)))
 }
 
-/// The name in front, if a word is left, and the text after it.
+/// Reads a name, if a word is left, and returns the text after it.
 #[tactic(auto, unfolding(crate::specs::Replies::member_at))]
 fn read_member(text: &[u8]) -> Result<Option<(u32, &[u8])>, Fault>
     ensures { Gives (λ r. option_map (λ n. (n.0, words_of n.1.now)) r) result (member_at (words_of text.now)) }
@@ -135,7 +135,7 @@ fn read_member(text: &[u8]) -> Result<Option<(u32, &[u8])>, Fault>
     Ok(Some((member, rest)))
 }
 
-/// Names with their types up to the end.
+/// Reads names with their types up to the end.
 fn read_names(alloc: Global, text: &[u8]) -> Result<Sequence<NamedType>, Fault>
     ensures { Gives (λ r. r) result (names_at (words_of text.now)) }
 {
@@ -153,7 +153,7 @@ fn read_names(alloc: Global, text: &[u8]) -> Result<Sequence<NamedType>, Fault>
     }
 }
 
-/// Names up to the end.
+/// Reads names up to the end.
 fn read_members(alloc: Global, text: &[u8]) -> Result<Sequence<u32>, Fault>
     ensures { Gives (λ r. r) result (members_at (words_of text.now)) }
 {
@@ -171,7 +171,7 @@ fn read_members(alloc: Global, text: &[u8]) -> Result<Sequence<u32>, Fault>
     }
 }
 
-/// The message after its word, or no bytes.
+/// Reads the message after its label, or returns no bytes.
 #[tactic(auto, unfolding(crate::specs::Replies::received_at))]
 fn read_received(alloc: Global, text: &[u8]) -> Result<(Vec<u8>, &[u8]), Fault>
     ensures { Gives (λ r. (r.0.items, words_of r.1.now)) result (received_at (words_of text.now)) }
@@ -182,7 +182,7 @@ fn read_received(alloc: Global, text: &[u8]) -> Result<(Vec<u8>, &[u8]), Fault>
     }
 }
 
-/// The answer of a `mach_msg` with this code.
+/// Reads the reply to a `mach_msg` with this code.
 #[tactic(auto, unfolding(crate::specs::Replies::message_reply_at))]
 fn read_message_reply(alloc: Global, code: KernReturn, text: &[u8]) -> Result<PlainReply, Fault>
     ensures { Gives (λ r. r) result (message_reply_at code (words_of text.now)) }
@@ -218,7 +218,7 @@ fn read_space_created(text: &[u8]) -> Result<PlainReply, Fault>
     last(PlainReply::SpaceCreated { space, name }, rest)
 }
 
-/// The one number that is left.
+/// Reads the one number that is left.
 #[tactic(auto, unfolding(crate::specs::Replies::last_value))]
 fn read_last(kind: Kind, text: &[u8]) -> Result<u32, Fault>
     ensures { Gives (λ r. r) result (last_value kind (words_of text.now)) }
@@ -235,7 +235,7 @@ fn read_last_status(text: &[u8]) -> Result<PlainReply, Fault>
     last(PlainReply::ReceiveStatus { status }, rest)
 }
 
-/// The results of a call with this number.
+/// Reads the results of a call with this number.
 #[tactic(auto, unfolding(crate::specs::Replies::results_at))]
 fn read_results(alloc: Global, number: u32, text: &[u8]) -> Result<PlainReply, Fault>
     ensures { Gives (λ r. r) result (results_at number (words_of text.now)) }
@@ -273,7 +273,7 @@ fn read_results(alloc: Global, number: u32, text: &[u8]) -> Result<PlainReply, F
     }
 }
 
-/// Whether a call with this number has results, or may have some.
+/// Returns true if a call with this number has results or may have some.
 fn may_tell(number: u32) -> bool
     ensures { result ≡ (has_results number || number == MACH_MSG) }
 {
@@ -293,7 +293,7 @@ fn may_tell(number: u32) -> bool
     )
 }
 
-/// The answer to the call with this number if the line gives none.
+/// Returns the reply to a call with this number if the line has none.
 #[tactic(auto, unfolding(crate::specs::Replies::silence))]
 fn read_silence(alloc: Global, number: u32, text: &[u8]) -> Result<PlainReply, Fault>
     ensures { Gives (λ r. r) result (silence number (words_of text.now)) }
@@ -314,7 +314,7 @@ fn read_silence(alloc: Global, number: u32, text: &[u8]) -> Result<PlainReply, F
     }
 }
 
-/// How a call with this number was refused.
+/// Reads the refusal of a call with this number.
 #[tactic(auto, unfolding(crate::specs::Replies::refusal_at))]
 fn read_refusal(alloc: Global, number: u32, text: &[u8]) -> Result<PlainReply, Fault>
     ensures { Gives (λ r. r) result (refusal_at number (words_of text.now)) }
@@ -331,7 +331,7 @@ fn read_refusal(alloc: Global, number: u32, text: &[u8]) -> Result<PlainReply, F
     last(PlainReply::Refused { number, code }, rest)
 }
 
-/// The answer to the call with this number, which isn't numbered. The text is all that is left of the line.
+/// Reads the reply to a call with this number that isn't numbered, up to the end.
 #[tactic(auto, unfolding(crate::specs::Replies::plain_reply_at))]
 fn read_plain_reply(alloc: Global, number: u32, text: &[u8]) -> Result<PlainReply, Fault>
     ensures { Gives (λ r. r) result (plain_reply_at number (words_of text.now)) }
@@ -351,7 +351,7 @@ fn read_plain_reply(alloc: Global, number: u32, text: &[u8]) -> Result<PlainRepl
     Err(Fault::expected(Expected::Results, text))
 }
 
-/// The same, as a reply to a call that isn't numbered, or to one that was refused.
+/// Reads the reply to a call that isn't numbered, or was refused, as a `Reply`.
 #[tactic(auto, unfolding(crate::specs::Replies::own_reply_at))]
 fn read_own_reply(alloc: Global, number: u32, text: &[u8]) -> Result<Reply, Fault>
     ensures { Gives (λ r. r) result (own_reply_at number (words_of text.now)) }
@@ -360,7 +360,7 @@ fn read_own_reply(alloc: Global, number: u32, text: &[u8]) -> Result<Reply, Faul
     Ok(Reply::Plain(reply))
 }
 
-/// The request in front, and the answer to the call with this number, which was numbered by it.
+/// Reads the request and the reply to the numbered call with this number.
 #[tactic(auto, unfolding(crate::specs::Replies::made_at))]
 fn read_made(alloc: Global, number: u32, text: &[u8]) -> Result<Reply, Fault>
     ensures { Gives (λ r. r) result (made_at number (words_of text.now)) }
@@ -370,7 +370,7 @@ fn read_made(alloc: Global, number: u32, text: &[u8]) -> Result<Reply, Fault>
     Ok(Reply::Numbered(NumberedReply { request, reply }))
 }
 
-/// The answer of number 22, by which a call with this number is numbered.
+/// Reads the reply of number 22 to a numbered call with this number.
 #[tactic(auto, unfolding(crate::specs::Replies::numbered_reply_at))]
 fn read_numbered_reply(alloc: Global, number: u32, text: &[u8]) -> Result<Reply, Fault>
     ensures { Gives (λ r. r) result (numbered_reply_at number (words_of text.now)) }
@@ -381,7 +381,7 @@ fn read_numbered_reply(alloc: Global, number: u32, text: &[u8]) -> Result<Reply,
     }
 }
 
-/// The answer to a call. The text is all that is left of the line.
+/// Reads the reply to a call, up to the end.
 #[tactic(auto, unfolding(crate::specs::Replies::reply_at))]
 pub(crate) fn read_reply(alloc: Global, call: &Call, text: &[u8]) -> Result<Reply, Fault>
     ensures { Gives (λ r. r) result (reply_at call.now (words_of text.now)) }

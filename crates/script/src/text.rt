@@ -9,23 +9,23 @@ use crate::line::read_line;
 use script_printing::Exchange;
 use std::alloc::Global;
 
-/// A line of a script that holds a call.
+/// A line of a script with a call.
 #[derive(Drop)]
 pub struct Line {
     /// The line's number, from 1.
     pub number: usize,
-    /// The call of the line, and its answer.
+    /// The call of the line, and its reply.
     pub exchange: Exchange,
 }
 
-/// How many bytes stand in front of the first end of a line.
+/// Returns the number of bytes before the first end of a line.
 fn count_line_bytes(text: &[u8]) -> usize
     ensures { result ≡ prefix_len in_line text.now }
 {
     text.iter().take_while(|byte| **byte != b'\n').count()
 }
 
-/// What stands after the first byte.
+/// Returns the bytes after the first one.
 fn after_first(text: &[u8]) -> &[u8]
     ensures { result.now ≡ drop 1 text.now }
 {
@@ -35,7 +35,7 @@ fn after_first(text: &[u8]) -> &[u8]
     }
 }
 
-/// The first line of a text without its end, and what stands after it.
+/// Splits off the first line of a text, without its end.
 fn first_line(text: &[u8]) -> (&[u8], &[u8])
     ensures line { result.0.now ≡ take (prefix_len in_line text.now) text.now }
     ensures rest { result.1.now ≡ drop 1 (drop (prefix_len in_line text.now) text.now) }
@@ -44,7 +44,7 @@ fn first_line(text: &[u8]) -> (&[u8], &[u8])
     (line, after_first(rest))
 }
 
-/// Adds the call of a line, if it holds one.
+/// Appends the call of a line, if it has one.
 fn add_line(
     alloc: Global,
     lines: &mut Vec<Line>,
@@ -64,9 +64,9 @@ fn add_line(
     }
 }
 
-/// The calls of a script, line by line, with their answers. The fault gives the first line that can't be read.
-/// `Unreadable`: it isn't blank, a comment or a call with its answer. `NoMemory`: out of memory for what it holds or
-/// for the list of lines.
+/// Reads the calls of a script, line by line, with their replies. The fault is that of the first line that can't be
+/// read. `Unreadable`: it isn't blank, a comment or a call with its reply. `NoMemory`: out of memory for its contents
+/// or for the list of lines.
 pub fn read_script(alloc: Global, text: &[u8]) -> Result<Vec<Line>, ScriptFault>
     ensures read { MatchResult result (λ lines. script_read text.now ≡ Ok lines.items)
         (λ fault. IsFault fault.fault fault (script_read text.now)) }

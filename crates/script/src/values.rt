@@ -5,7 +5,7 @@ ghost use Rattle.script.specs.Reading.{Gives, number_at, bounded_at, value_at, l
 use crate::fault::{Expected, Fault};
 use script_words::{Kind, take_word};
 
-/// The number in front and the text after it, if there is one.
+/// Reads a number, if there is one, and returns the text after it.
 #[tactic(auto, unfolding(crate::specs::Reading::number_at))]
 pub(crate) fn take_number(kind: Kind, text: &[u8]) -> Option<(u32, &[u8])>
     ensures { MatchOption result (number_at kind (words_of text.now) ≡ None)
@@ -19,7 +19,7 @@ pub(crate) fn take_number(kind: Kind, text: &[u8]) -> Option<(u32, &[u8])>
     Some((number, rest))
 }
 
-/// The number in front, and the text after it.
+/// Reads a number, and returns the text after it.
 #[tactic(auto, unfolding(crate::specs::Reading::value_at))]
 pub(crate) fn read_value(kind: Kind, text: &[u8]) -> Result<(u32, &[u8]), Fault>
     ensures { Gives (λ r. (r.0, words_of r.1.now)) result (value_at kind (words_of text.now)) }
@@ -30,7 +30,7 @@ pub(crate) fn read_value(kind: Kind, text: &[u8]) -> Result<(u32, &[u8]), Fault>
     }
 }
 
-/// The number in front, which is below a bound, and the text after it.
+/// Reads a number below a bound, and returns the text after it.
 #[tactic(auto, unfolding(crate::specs::Reading::bounded_at))]
 pub(crate) fn read_bounded(
     expected: Expected,
@@ -51,7 +51,7 @@ pub(crate) fn read_bounded(
     }
 }
 
-/// The text after a word, if it is the first.
+/// Returns the text after this word, if it is the first.
 #[tactic(auto, unfolding(crate::specs::Reading::label_at))]
 pub(crate) fn after_label<'a>(label: &[u8], text: &'a [u8]) -> Option<&'a [u8]>
     ensures { MatchOption result (label_at label.now (words_of text.now) ≡ None)
@@ -61,7 +61,7 @@ pub(crate) fn after_label<'a>(label: &[u8], text: &'a [u8]) -> Option<&'a [u8]>
     if word == label { Some(rest) } else { None }
 }
 
-/// The number after this word, which is the first.
+/// Reads the number after this label, which must be the first word.
 #[tactic(auto, unfolding(crate::specs::Reading::labelled_at))]
 pub(crate) fn read_labelled<'a>(
     label: &[u8],
@@ -76,7 +76,7 @@ pub(crate) fn read_labelled<'a>(
     }
 }
 
-/// The number after this word if it is the first, else 0.
+/// Reads the number after this label, or returns 0 if the first word isn't the label.
 #[tactic(auto, unfolding(crate::specs::Reading::optional_at))]
 pub(crate) fn read_optional<'a>(
     label: &[u8],
@@ -91,7 +91,7 @@ pub(crate) fn read_optional<'a>(
     }
 }
 
-/// Whether this word is the first, and the text after it.
+/// Returns true and the text after this word if it is the first, else false and the text.
 #[tactic(auto, unfolding(crate::specs::Reading::flag_at))]
 pub(crate) fn read_flag<'a>(label: &[u8], text: &'a [u8]) -> (bool, &'a [u8])
     ensures { flag_at label.now (words_of text.now) ≡ (result.0, words_of result.1.now) }

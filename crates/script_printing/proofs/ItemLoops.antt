@@ -41,7 +41,7 @@ rest_pushed (Ok done) old line new words rest all is same pushed =
     pushed ∙ sym (ap (λ (l : List (List ℕ)). line ++ spaced l) is) ∙ same
 rest_pushed (Err e) old line new words rest all is same pushed = tt
 
--- what was added of an item
+-- the words that were appended for an item
 pub added_some : (old new beyond : List ℕ) (front : Option (List (List ℕ) × List ℕ))
     → AddsItem old new (Some beyond) front
     → (words : List (List ℕ)) × (front ≡ Some (words, beyond)) × (new ≡ old ++ spaced words)

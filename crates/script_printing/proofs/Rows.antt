@@ -3,7 +3,7 @@ use Rattle.std.proofs.Common.{◌≡◌, ℕ, List, [], ◌∷◌, length, refl,
 use Rattle.ipc_model.specs.declared.plain_reply.NamedType.{NamedType}
 use Rattle.script_printing.specs.Replies.{names_words, members_words}
 
--- no rows have no words
+-- no names have no words
 pub names_gone : (names : List NamedType) → length names ≡ 0 → names_words names ≡ []
 unfolding names_words
 names_gone [] e = refl

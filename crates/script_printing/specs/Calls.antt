@@ -37,7 +37,7 @@ verb_of (call.Receive limit large name waited) = verb.Receive
 verb_of (call.SpaceCreate name disposition) = verb.SpaceCreate
 verb_of call.SpaceDestroy = verb.SpaceDestroy
 
--- numbers as they are printed: a name, a count, and those that have words
+-- the written forms of numbers: a name, a count, and those that have words
 abbrev pub name_word : ℕ → List ℕ
 name_word n = value_word Hexadecimal n
 
@@ -55,7 +55,7 @@ receive_words limit large name waited =
     (name_word name ∷ codes "limit" ∷ count_word limit ∷ []) ++ flag_words (codes "large") large
     ++ flag_words (codes "waited") waited
 
--- the arguments of the calls that have two, the first of which is a name
+-- the words of two arguments, of which the first is a name
 abbrev pub pair_words : PlainCall → List (List ℕ)
 pair_words (call.Rename from to) = name_word from ∷ name_word to ∷ []
 pair_words (call.GetRefs name right) = name_word name ∷ right_word right ∷ []
@@ -67,7 +67,7 @@ pair_words (call.ExtractRight name disposition) = name_word name ∷ disposition
 pair_words (call.SpaceCreate name disposition) = name_word name ∷ disposition_word disposition ∷ []
 pair_words c = []
 
--- the arguments of a call
+-- the words of a call's arguments
 abbrev pub argument_words : PlainCall → List (List ℕ)
 argument_words (call.Attach space) = count_word space ∷ []
 argument_words call.Names = []
@@ -93,7 +93,7 @@ argument_words c = pair_words c
 unfoldable pub plain_call_words : PlainCall → List (List ℕ)
 plain_call_words c = verb_word (verb_of c) ∷ argument_words c
 
--- A call that is numbered has its request in front.
+-- The request of a numbered call comes first.
 abbrev pub first_word : Call → List ℕ
 first_word (Plain c) = verb_word (verb_of c)
 first_word (Numbered numbered) = codes "numbered"

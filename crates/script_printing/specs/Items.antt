@@ -1,5 +1,5 @@
--- The words of a body's items. Two kinds of items have a form, both short and inline: items of words of four bytes
--- each, by their type, and items of bytes, followed by zeros up to a multiple of four.
+-- The words of a body's items. Two kinds of items have a written form, both short and inline: items of words of four
+-- bytes each, with their type, and items of bytes, padded by zeros to a multiple of four.
 use Rattle.std.specs.Prelude.{◌≡◌, ℕ, zero, suc, ◌*◌, ◌/◌, ◌%◌, nat_lt, ◌==◌, List, [], ◌∷◌, ◌++◌, length, take, drop, map, Option, None, Some, codes, if◌then◌else◌}
 use Rattle.std.specs.Str.{bytes_eq}
 use Rattle.byteorder.specs.Endian.{little_number}
@@ -11,7 +11,7 @@ use Rattle.script_words.specs.Spaced.{spaced}
 use Rattle.script_words.specs.Items.{zeros, descriptor}
 use Rattle.script_printing.specs.Bytes.{bytes_word, optional_bytes}
 
--- the numbers of an item of words: ports by their names
+-- the kind of the numbers in an item of words: ports are names
 abbrev pub element_kind : ℕ → Kind
 element_kind type_name = if is_port_type type_name then Hexadecimal else Decimal
 
@@ -22,7 +22,7 @@ words_item_words type_name numbers =
 unfoldable pub bytes_item_words : List ℕ → List (List ℕ)
 bytes_item_words bytes = codes "item" ∷ codes "bytes" ∷ bytes_word bytes ∷ []
 
--- What a body begins with.
+-- The front of a body.
 infixl 10 ◌>>?◌
 abbrev pub ◌>>?◌ : {A B : Type 0} → Option A → (A → Option B) → Option B
 None >>? f = None
@@ -34,16 +34,16 @@ word_front bytes = if nat_lt (length bytes) 4 then None else Some (little_number
 unfoldable pub split_front : ℕ → List ℕ → Option (List ℕ × List ℕ)
 split_front n bytes = if nat_lt (length bytes) n then None else Some (take n bytes, drop n bytes)
 
--- the number of elements that the word of a short inline descriptor gives
+-- the number of elements in the word of a short inline descriptor
 abbrev pub stated_number : ℕ → ℕ
 stated_number w = (w / 0x1_0000) % 0x1000
 
--- the numbers in bytes, four in each
+-- the numbers in bytes, of four bytes each
 abbrev pub numbers_in : List ℕ → List ℕ
 numbers_in (a ∷ b ∷ c ∷ d ∷ bytes) = little_number 4 (a ∷ b ∷ c ∷ d ∷ []) ∷ numbers_in bytes
 numbers_in bytes = []
 
--- an item of words: its type, their bytes, and the bytes after it
+-- an item of words: its type, its bytes, and the bytes after it
 unfoldable pub words_front : List ℕ → Option (ℕ × List ℕ × List ℕ)
 words_front body = word_front body >>? λ w.
     if w.0 == descriptor (w.0 % 0x100) 32 (stated_number w.0)
@@ -59,24 +59,25 @@ bytes_front body = word_front body >>? λ w.
     else None
     ) else None
 
--- the words of the item at the front, if it has a form, and the bytes after it
+-- the words of the first item, if it has a written form, and the bytes after it
 unfoldable pub item_front : List ℕ → Option (List (List ℕ) × List ℕ)
 item_front body = elim (words_front body) [
   | Some w ↦ Some (words_item_words w.0 (numbers_in w.1), w.2)
   | None ↦ elim (bytes_front body) [ Some b ↦ Some (bytes_item_words b.0, b.1) | None ↦ None ]
 ]
 
--- A body is written as the items at its front that have a form, at most this many, and then the rest as bytes.
+-- The written form of a body: at most this many items at its front, as long as they have a form, then the rest as
+-- bytes.
 unfoldable pub body_within : ℕ → List ℕ → List (List ℕ)
 body_within zero body = optional_bytes (codes "data") body
 body_within (suc n) body =
     elim (item_front body) [ None ↦ optional_bytes (codes "data") body | Some i ↦ i.0 ++ body_within n i.1 ]
 
--- each item has at least one byte, so there are no more items than bytes
+-- the written form of a body; each item has at least one byte, so there are no more items than bytes
 unfoldable pub body_words : List ℕ → List (List ℕ)
 body_words body = body_within (length body) body
 
--- The item at the front was added, and this follows it; or there is none.
+-- The first item was appended, and this follows it; or the first item has no form.
 abbrev pub AddsItem : List ℕ → List ℕ → Option (List ℕ) → Option (List (List ℕ) × List ℕ) → Type 0
 AddsItem old new (Some beyond) (Some i) = (new ≡ old ++ spaced i.0) × (beyond ≡ i.1)
 AddsItem old new None None = new ≡ old

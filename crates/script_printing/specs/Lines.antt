@@ -6,14 +6,14 @@ use Rattle.script_printing.specs.declared.line.Exchange.{Exchange}
 use Rattle.script_printing.specs.Calls.{call_words}
 use Rattle.script_printing.specs.Replies.{reply_words}
 
--- the words of the call, and of what it answered
+-- the words of a call and its reply
 abbrev pub exchange_words : Exchange → List (List ℕ)
 exchange_words x = call_words x.call ++ reply_words x.reply
 
--- the line that they make
+-- the line of a call and its reply
 unfoldable pub exchange_line : Exchange → List ℕ
 exchange_line x = line_of (exchange_words x)
 
--- what follows the call in it
+-- the part of a line after the call
 abbrev pub reply_line : Reply → List ℕ
 reply_line r = spaced (reply_words r)

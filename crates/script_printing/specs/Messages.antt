@@ -8,21 +8,21 @@ use Rattle.script_words.specs.Kinds.{value_word}
 use Rattle.script_printing.specs.Bytes.{bytes_word}
 use Rattle.script_printing.specs.Items.{body_words}
 
--- a number after its label, unless it is 0
+-- a label and a number, unless the number is 0
 unfoldable pub optional_words : List ℕ → Kind → ℕ → List (List ℕ)
 optional_words label k n = if n == 0 then [] else label ∷ value_word k n ∷ []
 
--- a word, if this holds
+-- a word, if this is true
 unfoldable pub flag_words : List ℕ → Bool → List (List ℕ)
 flag_words label holds = if holds then label ∷ [] else []
 
--- the right to reply by, if the message says anything of it
+-- the reply right, if the message mentions one
 unfoldable pub local_words : ℕ → ℕ → List (List ℕ)
 local_words disposition name =
     if disposition == 0 && name == 0 then [] else codes "local" ∷ value_word Disposition disposition
     ∷ value_word Hexadecimal name ∷ []
 
--- the six words that a message begins with
+-- the six words at the front of a message
 abbrev pub header_of : List ℕ → Header
 header_of message = record {
   bits = little_number 4 message;
@@ -42,7 +42,7 @@ header_words h =
     ++ optional_words (codes "size") Decimal h.size
     ++ optional_words (codes "seqno") Decimal h.seqno
 
--- A message with a whole header is written as its fields, and a shorter one as its bytes.
+-- A message with a whole header is written by its fields, and a shorter one as bytes.
 unfoldable pub message_words : List ℕ → List (List ℕ)
 message_words message =
     if nat_lt (length message) 24 then codes "bytes" ∷ bytes_word message ∷ []

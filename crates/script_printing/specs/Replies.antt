@@ -48,7 +48,7 @@ names_words names = flat_map (λ (n : NamedType). name_word n.name ∷ name_word
 unfoldable pub members_words : List ℕ → List (List ℕ)
 members_words members = map name_word members
 
--- how a mach_msg went: nothing, if it was done and the reply says nothing more
+-- the code of a mach_msg, or nothing if it was done and the reply has nothing else
 unfoldable pub outcome_words : KernReturn → Bool → List (List ℕ)
 outcome_words Success silent = if silent then [] else codes "=" ∷ []
 outcome_words code silent = codes "!" ∷ code_word code ∷ []
@@ -62,7 +62,7 @@ message_reply_words code size member message =
     outcome_words code (size == 0 && member == 0 && length message == 0) ++ optional_words (codes "size") Decimal size
     ++ optional_words (codes "member") Hexadecimal member ++ received_words message
 
--- the results of a call that was done and has some
+-- the words of the results of a call that was done
 abbrev pub result_words : PlainReply → List (List ℕ)
 result_words (reply.Names names) = names_words names
 result_words (reply.Type bits) = name_word bits ∷ []
@@ -75,15 +75,15 @@ result_words (reply.Extracted name kind) = name_word name ∷ kind_word kind ∷
 result_words (reply.SpaceCreated space name) = codes "space" ∷ count_word space ∷ codes "name" ∷ name_word name ∷ []
 result_words answer = []
 
--- what follows a call that isn't numbered
+-- the words after a call that isn't numbered
 abbrev pub plain_reply_words : PlainReply → List (List ℕ)
 plain_reply_words (reply.Refused number code) = codes "!" ∷ code_word code ∷ []
 plain_reply_words (reply.Done number) = []
 plain_reply_words (reply.Message code size member message) = message_reply_words code size member message
 plain_reply_words answer = codes "=" ∷ result_words answer
 
--- What follows a call. One that is numbered and was made has its request after a colon, and then what the call that is
--- numbered answered.
+-- The words after a call. After a numbered call that was made these are a colon, the request, and the reply to the call
+-- that is numbered.
 abbrev pub reply_words : Reply → List (List ℕ)
 reply_words (variants.Plain answer) = plain_reply_words answer
 reply_words (variants.Numbered answer) = codes ":" ∷ count_word answer.request ∷ plain_reply_words answer.reply

@@ -5,7 +5,7 @@ ghost use Rattle.script_printing.specs.Bytes.{bytes_word, optional_bytes};
 use script_words::push_spaced;
 use std::alloc::AllocError;
 
-/// Adds bytes as a word, with a space in front. If an allocation fails, some of it may have been added.
+/// Appends bytes as a word, after a space. If an allocation fails, part of it may have been appended.
 #[tactic(auto, unfolding(crate::specs::Bytes::bytes_word))]
 pub(crate) fn push_bytes(line: &mut Vec<u8>, bytes: &[u8]) -> Result<(), AllocError>
     ensures { OnOk result (line.new.items ≡ line.old.items ++ spaced (bytes_word bytes.now ∷ [])) }
@@ -17,7 +17,7 @@ pub(crate) fn push_bytes(line: &mut Vec<u8>, bytes: &[u8]) -> Result<(), AllocEr
     push_spaced(line, text.as_bytes())
 }
 
-/// Adds bytes after a word, if there are any.
+/// Appends a label and bytes, if there are any bytes.
 #[tactic(auto, using(script_words::proofs::WordsOf::spaced_laws), unfolding(crate::specs::Bytes::optional_bytes))]
 pub(crate) fn push_optional_bytes(
     line: &mut Vec<u8>,

@@ -11,7 +11,7 @@ use ipc_model::{Call, PlainCall};
 use script_words::{Kind, Verb, large_word, push_spaced, push_value};
 use std::alloc::AllocError;
 
-/// The verb of a call.
+/// Returns the verb of a call.
 fn verb_of(call: &PlainCall) -> Verb
     ensures { result ≡ verb_of call.now }
 {
@@ -42,7 +42,7 @@ fn verb_of(call: &PlainCall) -> Verb
     }
 }
 
-/// Adds the words of a receive's arguments.
+/// Appends the words of a receive's arguments.
 #[tactic(auto, using(script_words::proofs::WordsOf::spaced_laws))]
 fn push_receive(
     line: &mut Vec<u8>,
@@ -59,7 +59,7 @@ fn push_receive(
     push_flag(line, b"waited", waited)
 }
 
-/// Adds the words of the arguments of a request for a notification.
+/// Appends the words of the arguments of a notification request.
 #[tactic(auto, using(script_words::proofs::WordsOf::spaced_laws))]
 fn push_notification(
     line: &mut Vec<u8>,
@@ -85,7 +85,7 @@ fn push_notification(
     )
 }
 
-/// Adds a name and another number.
+/// Appends a name and another number.
 fn push_name_and(line: &mut Vec<u8>, name: u32, kind: Kind, number: u32) -> Result<(), AllocError>
     ensures { OnOk result (line.new.items ≡ line.old.items
         ++ spaced (value_word Kind.Hexadecimal name ∷ value_word kind number ∷ [])) }
@@ -93,7 +93,7 @@ fn push_name_and(line: &mut Vec<u8>, name: u32, kind: Kind, number: u32) -> Resu
     push_two(line, (Kind::Hexadecimal, name), (kind, number))
 }
 
-/// Adds the words of the arguments of a call that has two, a name first.
+/// Appends the words of two arguments, of which the first is a name.
 #[tactic(auto, using(script_words::proofs::WordsOf::spaced_laws))]
 fn push_pair(line: &mut Vec<u8>, call: &PlainCall) -> Result<(), AllocError>
     ensures { OnOk result (line.new.items ≡ line.old.items ++ spaced (pair_words call.now)) }
@@ -115,7 +115,7 @@ fn push_pair(line: &mut Vec<u8>, call: &PlainCall) -> Result<(), AllocError>
     }
 }
 
-/// Adds the words of the arguments of an insertion of a right.
+/// Appends the words of the arguments of an insertion of a right.
 #[tactic(auto, using(script_words::proofs::WordsOf::spaced_laws))]
 fn push_insertion(
     line: &mut Vec<u8>,
@@ -130,7 +130,7 @@ fn push_insertion(
     push_value(line, Kind::Disposition, disposition)
 }
 
-/// Adds the words of a call's arguments.
+/// Appends the words of a call's arguments.
 #[tactic(auto, using(script_words::proofs::WordsOf::spaced_laws))]
 fn push_arguments(line: &mut Vec<u8>, call: &PlainCall) -> Result<(), AllocError>
     ensures { OnOk result (line.new.items ≡ line.old.items ++ spaced (argument_words call.now)) }
@@ -174,7 +174,7 @@ fn push_arguments(line: &mut Vec<u8>, call: &PlainCall) -> Result<(), AllocError
     }
 }
 
-/// Adds the words of a call that isn't numbered, the first without a space in front.
+/// Appends the words of a call that isn't numbered. The first word has no space before it.
 #[tactic(auto, using(script_words::proofs::WordsOf::spaced_laws))]
 fn push_plain(line: &mut Vec<u8>, call: &PlainCall) -> Result<(), AllocError>
     ensures { OnOk result (line.new.items ≡ (line.old.items ++ verb_word (verb_of call.now))
@@ -184,7 +184,7 @@ fn push_plain(line: &mut Vec<u8>, call: &PlainCall) -> Result<(), AllocError>
     push_arguments(line, call)
 }
 
-/// Adds the words of a call that is numbered, the first without a space in front.
+/// Appends the words of a numbered call. The first word has no space before it.
 #[tactic(auto, using(script_words::proofs::WordsOf::spaced_laws))]
 fn push_numbered(line: &mut Vec<u8>, request: u32, call: &PlainCall) -> Result<(), AllocError>
     ensures { OnOk result (line.new.items ≡ (line.old.items ++ codes "numbered")
@@ -196,7 +196,7 @@ fn push_numbered(line: &mut Vec<u8>, request: u32, call: &PlainCall) -> Result<(
     push_arguments(line, call)
 }
 
-/// Adds the words of a call, the first without a space in front.
+/// Appends the words of a call. The first word has no space before it.
 #[tactic(auto, using(script_words::proofs::WordsOf::spaced_laws))]
 pub(crate) fn push_call_words(line: &mut Vec<u8>, call: &Call) -> Result<(), AllocError>
     ensures { OnOk result (line.new.items ≡ (line.old.items ++ first_word call.now)

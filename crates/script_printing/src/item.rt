@@ -13,7 +13,7 @@ use script_words::{
 use std::alloc::AllocError;
 use words::take_word;
 
-/// The number of elements that a short descriptor gives.
+/// Returns the number of elements in a short descriptor.
 fn stated_number(descriptor: u32) -> u32
     ensures reported { result ≡ stated_number descriptor }
     ensures small { result < 0x1000 }
@@ -30,7 +30,7 @@ fn element_kind(type_name: u32) -> Kind
     }
 }
 
-/// The number in the first four bytes, and the bytes after it.
+/// Splits off the number in the first four bytes.
 #[tactic(auto, unfolding(crate::specs::Items::word_front))]
 fn word_front(bytes: &[u8]) -> Option<(u32, &[u8])>
     ensures { MatchOption result (word_front bytes.now ≡ None) (λ r. word_front bytes.now ≡ Some (r.0, r.1.now)) }
@@ -42,7 +42,7 @@ fn word_front(bytes: &[u8]) -> Option<(u32, &[u8])>
     Some((LittleEndian::read_u32(bytes), beyond))
 }
 
-/// The first `count` bytes and those after them, if there are that many.
+/// Splits off the first `count` bytes, if there are as many.
 #[tactic(auto, unfolding(crate::specs::Items::split_front))]
 fn split_front(bytes: &[u8], count: usize) -> Option<(&[u8], &[u8])>
     ensures { MatchOption result (split_front count bytes.now ≡ None)
@@ -54,7 +54,7 @@ fn split_front(bytes: &[u8], count: usize) -> Option<(&[u8], &[u8])>
     Some(bytes.split_at(count))
 }
 
-/// The item of words that a body begins with: its type, their bytes, and the bytes after it.
+/// Splits off an item of words: its type and its bytes.
 #[tactic(auto, unfolding(crate::specs::Items::words_front))]
 fn words_front(body: &[u8]) -> Option<(u32, &[u8], &[u8])>
     ensures { MatchOption result (words_front body.now ≡ None)
@@ -70,7 +70,7 @@ fn words_front(body: &[u8]) -> Option<(u32, &[u8], &[u8])>
     Some((type_name, content, beyond))
 }
 
-/// The item of bytes that a body begins with: its bytes, and the bytes after it.
+/// Splits off an item of bytes.
 #[tactic(auto, unfolding(crate::specs::Items::bytes_front))]
 fn bytes_front(body: &[u8]) -> Option<(&[u8], &[u8])>
     ensures { MatchOption result (bytes_front body.now ≡ None) (λ r. bytes_front body.now ≡ Some (r.0.now, r.1.now)) }
@@ -90,7 +90,7 @@ fn bytes_front(body: &[u8]) -> Option<(&[u8], &[u8])>
     }
 }
 
-/// Adds the numbers in bytes, four bytes each.
+/// Appends the numbers in bytes, four bytes each.
 #[tactic(auto, using(script_words::proofs::WordsOf::spaced_laws))]
 fn push_numbers(line: &mut Vec<u8>, kind: Kind, bytes: &[u8]) -> Result<(), AllocError>
     ensures { OnOk result (line.new.items ≡ line.old.items ++ spaced (map (value_word kind) (numbers_in bytes.now))) }
@@ -103,7 +103,7 @@ fn push_numbers(line: &mut Vec<u8>, kind: Kind, bytes: &[u8]) -> Result<(), Allo
     Ok(())
 }
 
-/// Adds an item of words, which have these bytes.
+/// Appends an item of words with these bytes.
 #[tactic(auto, using(script_words::proofs::WordsOf::spaced_laws), unfolding(crate::specs::Items::words_item_words))]
 fn push_words_item(line: &mut Vec<u8>, type_name: u32, bytes: &[u8]) -> Result<(), AllocError>
     ensures { OnOk result (line.new.items ≡ line.old.items
@@ -114,7 +114,7 @@ fn push_words_item(line: &mut Vec<u8>, type_name: u32, bytes: &[u8]) -> Result<(
     push_numbers(line, element_kind(type_name), bytes)
 }
 
-/// Adds an item of bytes.
+/// Appends an item of bytes.
 #[tactic(auto, using(script_words::proofs::WordsOf::spaced_laws), unfolding(crate::specs::Items::bytes_item_words))]
 fn push_bytes_item(line: &mut Vec<u8>, bytes: &[u8]) -> Result<(), AllocError>
     ensures { OnOk result (line.new.items ≡ line.old.items ++ spaced (bytes_item_words bytes.now)) }
@@ -124,7 +124,7 @@ fn push_bytes_item(line: &mut Vec<u8>, bytes: &[u8]) -> Result<(), AllocError>
     push_bytes(line, bytes)
 }
 
-/// Adds the item that a body begins with, if it has a written form, and returns the bytes after it.
+/// Appends the first item of a body, if it has a written form, and returns the bytes after it.
 #[tactic(auto, unfolding(crate::specs::Items::item_front))]
 fn push_item<'a>(line: &mut Vec<u8>, body: &'a [u8]) -> Result<Option<&'a [u8]>, AllocError>
     ensures { IfOk result (λ reported. AddsItem line.old.items line.new.items
@@ -142,7 +142,7 @@ fn push_item<'a>(line: &mut Vec<u8>, body: &'a [u8]) -> Result<Option<&'a [u8]>,
     Ok(None)
 }
 
-/// Adds a body: the items in front that have a written form, and the rest as bytes.
+/// Appends a body: the first items, as long as they have a written form, and the rest as bytes.
 pub(crate) fn push_body(line: &mut Vec<u8>, body: &[u8]) -> Result<(), AllocError>
     ensures { OnOk result (line.new.items ≡ line.old.items ++ spaced (body_words body.now)) }
 {

@@ -1,4 +1,4 @@
-//! Calls and their answers printed as lines of text, in the words of Mach's headers.
+//! Prints calls and their replies as lines of text, in the words of Mach's headers.
 #![tactic(auto)]
 
 mod bytes;

@@ -7,16 +7,16 @@ use crate::reply::push_reply_words;
 use ipc_model::{Call, Reply};
 use std::alloc::AllocError;
 
-/// A call and its answer.
+/// A call and its reply.
 #[derive(Drop)]
 pub struct Exchange {
     /// The call.
     pub call: Call,
-    /// Its answer, which is one to a call with its number.
+    /// The reply, which is to a call with this number.
     pub reply: Reply,
 }
 
-/// Adds the line of a call, without its answer or an end of line. An `Err` changes nothing.
+/// Appends the line of a call, without a reply or an end of line. If an allocation fails, nothing changed.
 #[tactic(auto, using(script_words::proofs::WordsOf::spaced_laws), unfolding(crate::specs::Calls::call_line, crate::specs::Calls::call_words))]
 pub fn push_call(out: &mut Vec<u8>, call: &Call) -> Result<(), AllocError>
     ensures ok { OnOk result (out.new.items ≡ out.old.items ++ call_line call.now) }
@@ -27,8 +27,8 @@ pub fn push_call(out: &mut Vec<u8>, call: &Call) -> Result<(), AllocError>
     out.extend_from_slice(line.as_slice())
 }
 
-/// Adds the answer to a call, as it stands after the call in a line: each word has a space in front. Nothing is added
-/// if the call was done and has no results. An `Err` changes nothing.
+/// Appends a reply as it follows its call in a line: each word after a space. A call that was done without results adds
+/// nothing. If an allocation fails, nothing changed.
 #[tactic(auto, using(script_words::proofs::WordsOf::spaced_laws))]
 pub fn push_reply(out: &mut Vec<u8>, reply: &Reply) -> Result<(), AllocError>
     ensures ok { OnOk result (out.new.items ≡ out.old.items ++ reply_line reply.now) }
@@ -39,7 +39,7 @@ pub fn push_reply(out: &mut Vec<u8>, reply: &Reply) -> Result<(), AllocError>
     out.extend_from_slice(line.as_slice())
 }
 
-/// Adds the line of a call and its answer, without an end of line. An `Err` changes nothing.
+/// Appends the line of a call and its reply, without an end of line. If an allocation fails, nothing changed.
 #[tactic(auto, using(script_words::proofs::WordsOf::spaced_laws), unfolding(crate::specs::Lines::exchange_line, crate::specs::Calls::call_words))]
 pub fn push_exchange(out: &mut Vec<u8>, exchange: &Exchange) -> Result<(), AllocError>
     ensures ok { OnOk result (out.new.items ≡ out.old.items ++ exchange_line exchange.now) }

@@ -14,7 +14,7 @@ use codes::HEADER_LENGTH;
 use script_words::{Header, Kind, push_spaced, push_value};
 use std::alloc::AllocError;
 
-/// The word after `front` bytes.
+/// Returns the word at offset `front`.
 fn word_at(message: &[u8], front: usize) -> u32
     requires { front + 4 ≤ length message.now }
     ensures { result ≡ little_number 4 (drop front message.now) }
@@ -22,7 +22,7 @@ fn word_at(message: &[u8], front: usize) -> u32
     LittleEndian::read_u32(&message[front..])
 }
 
-/// The header that a message begins with.
+/// Returns the header at the front of a message.
 fn header_of(message: &[u8]) -> Header
     requires { 24 ≤ length message.now }
     ensures { result ≡ header_of message.now }
@@ -37,7 +37,7 @@ fn header_of(message: &[u8]) -> Header
     }
 }
 
-/// Adds the words of a message that has a whole header.
+/// Appends the words of a message with a whole header.
 #[tactic(auto, using(script_words::proofs::WordsOf::spaced_laws))]
 fn push_whole(line: &mut Vec<u8>, message: &[u8]) -> Result<(), AllocError>
     requires { 24 ≤ length message.now }
@@ -49,7 +49,7 @@ fn push_whole(line: &mut Vec<u8>, message: &[u8]) -> Result<(), AllocError>
     push_body(line, &message[HEADER_LENGTH..])
 }
 
-/// Adds all bytes of a message.
+/// Appends all bytes of a message.
 #[tactic(auto, using(script_words::proofs::WordsOf::spaced_laws))]
 fn push_short(line: &mut Vec<u8>, message: &[u8]) -> Result<(), AllocError>
     ensures { OnOk result (line.new.items ≡ line.old.items ++ spaced (codes "bytes" ∷ bytes_word message.now ∷ [])) }
@@ -58,7 +58,7 @@ fn push_short(line: &mut Vec<u8>, message: &[u8]) -> Result<(), AllocError>
     push_bytes(line, message)
 }
 
-/// Adds the words of a message. If an allocation fails, some may have been added.
+/// Appends the words of a message. If an allocation fails, some may have been appended.
 #[tactic(auto, unfolding(crate::specs::Messages::message_words))]
 pub(crate) fn push_message(line: &mut Vec<u8>, message: &[u8]) -> Result<(), AllocError>
     ensures { OnOk result (line.new.items ≡ line.old.items ++ spaced (message_words message.now)) }
@@ -70,7 +70,7 @@ pub(crate) fn push_message(line: &mut Vec<u8>, message: &[u8]) -> Result<(), All
     }
 }
 
-/// Adds the words of a header.
+/// Appends the words of a header.
 #[tactic(auto, using(script_words::proofs::WordsOf::spaced_laws), unfolding(crate::specs::Messages::header_words))]
 fn push_header(line: &mut Vec<u8>, header: &Header) -> Result<(), AllocError>
     ensures { OnOk result (line.new.items ≡ line.old.items ++ spaced (header_words header.now)) }
@@ -101,7 +101,7 @@ fn push_local(line: &mut Vec<u8>, disposition: u32, name: u32) -> Result<(), All
     )
 }
 
-/// Adds a number after a word.
+/// Appends a label and a number.
 #[tactic(auto, using(script_words::proofs::WordsOf::spaced_laws))]
 pub(crate) fn push_labelled(
     line: &mut Vec<u8>,
@@ -115,7 +115,7 @@ pub(crate) fn push_labelled(
     push_value(line, kind, number)
 }
 
-/// Adds a number after a word, if it isn't 0.
+/// Appends a label and a number, if the number isn't 0.
 #[tactic(auto, using(script_words::proofs::WordsOf::spaced_laws), unfolding(crate::specs::Messages::optional_words))]
 pub(crate) fn push_optional(
     line: &mut Vec<u8>,
@@ -131,7 +131,7 @@ pub(crate) fn push_optional(
     push_labelled(line, label, kind, number)
 }
 
-/// Adds a word, if this holds.
+/// Appends a word, if this is true.
 #[tactic(auto, using(script_words::proofs::WordsOf::spaced_laws), unfolding(crate::specs::Messages::flag_words))]
 pub(crate) fn push_flag(line: &mut Vec<u8>, label: &[u8], holds: bool) -> Result<(), AllocError>
     ensures { OnOk result (line.new.items ≡ line.old.items ++ spaced (flag_words label.now holds)) }

@@ -35,7 +35,7 @@ fn push_answer(line: &mut Vec<u8>, label: &[u8], holds: bool) -> Result<(), Allo
     push_spaced(line, yes_or_no(holds))
 }
 
-/// Adds what a port's state says of its right.
+/// Appends a port's set, sequence number and make-send count.
 #[tactic(auto, using(script_words::proofs::WordsOf::spaced_laws))]
 fn push_place(line: &mut Vec<u8>, status: &ReceiveStatus) -> Result<(), AllocError>
     ensures { OnOk result (line.new.items ≡ line.old.items ++ spaced (place_words status.now)) }
@@ -45,7 +45,7 @@ fn push_place(line: &mut Vec<u8>, status: &ReceiveStatus) -> Result<(), AllocErr
     push_labelled(line, b"mscount", Kind::Decimal, status.make_send_count)
 }
 
-/// Adds what a port's state says of its queue.
+/// Appends the limit and the messages of a port's queue, and the number of send-once rights to the port.
 #[tactic(auto, using(script_words::proofs::WordsOf::spaced_laws))]
 fn push_queue(line: &mut Vec<u8>, status: &ReceiveStatus) -> Result<(), AllocError>
     ensures { OnOk result (line.new.items ≡ line.old.items ++ spaced (queue_words status.now)) }
@@ -55,7 +55,7 @@ fn push_queue(line: &mut Vec<u8>, status: &ReceiveStatus) -> Result<(), AllocErr
     push_labelled(line, b"send_once", Kind::Decimal, status.send_once_count)
 }
 
-/// Adds what a port's state says of its other rights.
+/// Appends the flags of a port's send rights and of its two requests.
 #[tactic(auto, using(script_words::proofs::WordsOf::spaced_laws))]
 fn push_answers(line: &mut Vec<u8>, status: &ReceiveStatus) -> Result<(), AllocError>
     ensures { OnOk result (line.new.items ≡ line.old.items ++ spaced (answers_words status.now)) }
@@ -65,7 +65,7 @@ fn push_answers(line: &mut Vec<u8>, status: &ReceiveStatus) -> Result<(), AllocE
     push_answer(line, b"no_senders", status.has_no_senders_request)
 }
 
-/// Adds the state of a port.
+/// Appends the state of a port.
 #[tactic(auto, using(script_words::proofs::WordsOf::spaced_laws), unfolding(crate::specs::Replies::status_words, crate::specs::Replies::count_words))]
 fn push_status(line: &mut Vec<u8>, status: &ReceiveStatus) -> Result<(), AllocError>
     ensures { OnOk result (line.new.items ≡ line.old.items ++ spaced (status_words status.now)) }
@@ -75,7 +75,7 @@ fn push_status(line: &mut Vec<u8>, status: &ReceiveStatus) -> Result<(), AllocEr
     push_answers(line, status)
 }
 
-/// Adds names, each with its type.
+/// Appends names, each with its type.
 #[tactic(auto, using(script_words::proofs::WordsOf::spaced_laws), unfolding(crate::specs::Replies::names_words))]
 fn push_names(line: &mut Vec<u8>, names: &[NamedType]) -> Result<(), AllocError>
     ensures { OnOk result (line.new.items ≡ line.old.items ++ spaced (names_words names.now)) }
@@ -92,7 +92,7 @@ fn push_names(line: &mut Vec<u8>, names: &[NamedType]) -> Result<(), AllocError>
     Ok(())
 }
 
-/// Adds names.
+/// Appends names.
 #[tactic(auto, using(script_words::proofs::WordsOf::spaced_laws), unfolding(crate::specs::Replies::members_words))]
 fn push_members(line: &mut Vec<u8>, members: &[u32]) -> Result<(), AllocError>
     ensures { OnOk result (line.new.items ≡ line.old.items ++ spaced (members_words members.now)) }
@@ -105,7 +105,7 @@ fn push_members(line: &mut Vec<u8>, members: &[u32]) -> Result<(), AllocError>
     Ok(())
 }
 
-/// Adds how a `mach_msg` went.
+/// Appends the code of a `mach_msg`.
 #[tactic(auto, using(script_words::proofs::WordsOf::spaced_laws), unfolding(crate::specs::Replies::outcome_words))]
 fn push_outcome(line: &mut Vec<u8>, code: KernReturn, silent: bool) -> Result<(), AllocError>
     ensures { OnOk result (line.new.items ≡ line.old.items ++ spaced (outcome_words code silent)) }
@@ -121,7 +121,7 @@ fn push_outcome(line: &mut Vec<u8>, code: KernReturn, silent: bool) -> Result<()
     }
 }
 
-/// Adds the answer of a `mach_msg`.
+/// Appends the reply to a `mach_msg`.
 #[tactic(auto, using(script_words::proofs::WordsOf::spaced_laws), unfolding(crate::specs::Replies::message_reply_words, crate::specs::Replies::received_words))]
 fn push_message_reply(
     line: &mut Vec<u8>,
@@ -143,7 +143,7 @@ fn push_message_reply(
     push_message(line, message)
 }
 
-/// Adds the results of a call that was done and has some.
+/// Appends the results of a call that was done.
 #[tactic(auto, using(script_words::proofs::WordsOf::spaced_laws))]
 fn push_results(line: &mut Vec<u8>, reply: &PlainReply) -> Result<(), AllocError>
     ensures { OnOk result (line.new.items ≡ line.old.items ++ spaced (codes "=" ∷ result_words reply.now)) }
@@ -170,7 +170,7 @@ fn push_results(line: &mut Vec<u8>, reply: &PlainReply) -> Result<(), AllocError
     }
 }
 
-/// Adds the words of the reply to a call that isn't numbered, each with a space in front.
+/// Appends the words of the reply to a call that isn't numbered, each after a space.
 #[tactic(auto, using(script_words::proofs::WordsOf::spaced_laws))]
 fn push_plain_reply_words(line: &mut Vec<u8>, reply: &PlainReply) -> Result<(), AllocError>
     ensures { OnOk result (line.new.items ≡ line.old.items ++ spaced (plain_reply_words reply.now)) }
@@ -191,7 +191,7 @@ fn push_plain_reply_words(line: &mut Vec<u8>, reply: &PlainReply) -> Result<(), 
     }
 }
 
-/// Adds the words of the reply to a numbered call that was made, each with a space in front.
+/// Appends the words of the reply to a numbered call that was made, each after a space.
 #[tactic(auto, using(script_words::proofs::WordsOf::spaced_laws))]
 fn push_made(line: &mut Vec<u8>, answer: &NumberedReply) -> Result<(), AllocError>
     ensures { OnOk result (line.new.items ≡ line.old.items
@@ -201,7 +201,7 @@ fn push_made(line: &mut Vec<u8>, answer: &NumberedReply) -> Result<(), AllocErro
     push_plain_reply_words(line, &answer.reply)
 }
 
-/// Adds the words of a reply, each with a space in front.
+/// Appends the words of a reply, each after a space.
 pub(crate) fn push_reply_words(line: &mut Vec<u8>, reply: &Reply) -> Result<(), AllocError>
     ensures { OnOk result (line.new.items ≡ line.old.items ++ spaced (reply_words reply.now)) }
 {

@@ -5,7 +5,7 @@ ghost use Rattle.script_words.specs.Spaced.{spaced};
 use script_words::{Kind, push_value};
 use std::alloc::AllocError;
 
-/// Adds two numbers, each as a word. If an allocation fails, some may have been added.
+/// Appends two numbers, each as a word. If an allocation fails, some may have been appended.
 #[tactic(auto, using(script_words::proofs::WordsOf::spaced_laws))]
 pub(crate) fn push_two(
     line: &mut Vec<u8>,
@@ -19,7 +19,7 @@ pub(crate) fn push_two(
     push_value(line, second.0, second.1)
 }
 
-/// Adds three numbers, each as a word. If an allocation fails, some may have been added.
+/// Appends three numbers, each as a word. If an allocation fails, some may have been appended.
 #[tactic(auto, using(script_words::proofs::WordsOf::spaced_laws))]
 pub(crate) fn push_three(
     line: &mut Vec<u8>,

@@ -1,4 +1,4 @@
--- How long the encodings of replies are.
+-- The lengths of the encodings of replies.
 use Rattle.std.proofs.Common.{◌≡◌, ℕ, ◌+◌, ◌*◌, ◌<◌, ◌≤◌, List, [], ◌∷◌, ◌++◌, length, flat_map, ◌^◌, refl, arith, length-append}
 use Rattle.ipc_model.specs.declared.plain_reply.NamedType.{NamedType}
 use Rattle.ipc_model.specs.declared.plain_reply.PlainReply.{PlainReply}

@@ -1,4 +1,4 @@
--- Frames of replies, and what they are expected to be.
+-- Frames of replies, and their expected values.
 use Rattle.std.specs.Prelude.{◌≡◌, ℕ, List, ◌++◌, length}
 use Rattle.ipc_model.specs.declared.plain_reply.PlainReply.{PlainReply}
 use Rattle.ipc_model.specs.declared.plain_reply.PlainReply.TheVariants as plain
@@ -15,7 +15,7 @@ pub record HasCode (frame : List ℕ) (code : ℕ) : Type 0 where
   pub results : List ℕ
   pub is : frame ≡ word content_length ++ (word number ++ (word code ++ results))
 
--- the frame is an expected one
+-- the frame is as expected
 abbrev pub Meets : Wanted → List ℕ → Type 0
 Meets (wanted.Frame frame) answer = answer ≡ frame.items
 Meets (wanted.Code code) answer = HasCode answer code
@@ -25,14 +25,14 @@ abbrev pub IsSame : Wanted → List ℕ → Type 0
 IsSame (wanted.Frame frame) answer = answer ≡ frame.items
 IsSame (wanted.Code code) answer = ⊥
 
--- how many names, members or bytes of a message a reply has
+-- the number of names, members or bytes of a message in a reply
 abbrev pub plain_item_count : PlainReply → ℕ
 plain_item_count (plain.Names names) = length names
 plain_item_count (plain.SetStatus members) = length members
 plain_item_count (plain.Message code size member message) = length message
 plain_item_count _ = 0
 
--- the same of any reply; of one to a numbered call, those of the reply in it
+-- the number of items in any reply; for a numbered call that of the inner reply
 abbrev pub item_count : Reply → ℕ
 item_count (reply.Plain answer) = plain_item_count answer
 item_count (reply.Numbered answer) = plain_item_count answer.reply

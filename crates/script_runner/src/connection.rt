@@ -6,13 +6,13 @@ use std::alloc::Global;
 use std::mem;
 use words::take_word;
 
-/// The space that a connection's task is attached to at first.
+/// The space to which a connection's task is attached at first.
 const FIRST_SPACE: u32 = 1;
 
-/// The number of the call that attaches to a space.
+/// The number of the call that attaches a task to a space.
 const ATTACH: u32 = 0;
 
-/// A store that a script left: its disk, and the space that the script's task is attached to.
+/// The store that a script left: its disk, and the space to which the script's task is attached.
 #[derive(Drop)]
 pub struct Store<D> {
     disk: D,
@@ -21,7 +21,7 @@ pub struct Store<D> {
 }
 
 impl<D: Device + Drop> Store<D> {
-    /// An empty store.
+    /// Creates an empty store.
     pub fn new(alloc: Global) -> Store<D> {
         Store {
             disk: D::empty(alloc),
@@ -30,17 +30,17 @@ impl<D: Device + Drop> Store<D> {
         }
     }
 
-    /// Makes it the store for another connection.
+    /// Prepares the store for another connection.
     pub fn connect_anew(&mut self) {
         self.space = FIRST_SPACE;
     }
 
-    /// Plans a crash at a call of its disk, and what it leaves.
+    /// Plans a crash at a call of the disk, and the contents that it leaves.
     pub fn plan_crash(&mut self, stop_at: u64, torn: Torn) {
         self.disk.plan_crash(stop_at, torn);
     }
 
-    /// Takes the store out, and leaves an empty one.
+    /// Returns the store, and leaves an empty one.
     fn take(&mut self) -> Store<D> {
         let empty = D::empty(self.alloc);
         Store {
@@ -50,7 +50,7 @@ impl<D: Device + Drop> Store<D> {
         }
     }
 
-    /// How many bytes segment 0 has.
+    /// Returns the length of segment 0 in bytes.
     pub fn length(&self) -> u64 {
         self.disk.segment_length()
     }
@@ -61,20 +61,20 @@ impl<D: Device + Drop> Store<D> {
 pub struct Connection<D: Device> {
     alloc: Global,
     server: D::Server,
-    /// The space that the task is attached to.
+    /// The space to which this task is attached.
     attached: u32,
-    /// The space that the script's task is attached to, and this one from its next call on.
+    /// The space to which the script's task is attached, and this task from its next call on.
     space: u32,
     records: u64,
 }
 
-/// The frame that attaches to a space.
+/// Returns the frame that attaches to a space.
 fn attach_frame(space: u32) -> [u8; 12] {
     let [a, b, c, d] = space.to_le_bytes();
     [8, 0, 0, 0, 0, 0, 0, 0, a, b, c, d]
 }
 
-/// The space that a frame asks to be attached to, if it asks for that.
+/// Returns the space that a frame of number 0 names, or `None` for another frame.
 fn attached_by(frame: &[u8]) -> Option<u32> {
     let (_, content) = take_word(frame)?;
     let (number, arguments) = take_word(content)?;
@@ -102,23 +102,23 @@ impl<D: Device + Drop> Connection<D> {
         }
     }
 
-    /// Opens a store that `stop` gives back: until then it is an empty one. So a caller that goes on with it has no
-    /// store to drop if a call fails.
+    /// Opens a store, which `stop` returns; meanwhile `store` is empty. So a caller that still uses it has no store to
+    /// drop if a call fails.
     pub fn borrow(store: &mut Store<D>, place: Place) -> Result<Connection<D>, Failure> {
         Connection::open(store.take(), place)
     }
 
-    /// How many records the store had when it was opened.
+    /// Returns the number of records that the store had when it was opened.
     pub fn records(&self) -> u64 {
         self.records
     }
 
-    /// The frame that answers a frame, if there is one.
+    /// Returns the reply to a frame, if there is one.
     fn send(&mut self, frame: &[u8]) -> Option<Vec<u8>> {
         D::answer(&mut self.server, self.alloc, frame)
     }
 
-    /// Attaches the task as the script's is.
+    /// Attaches the task to the script's space.
     fn attach(&mut self) -> Result<(), Unanswered> {
         let Some(reply) = self.send(&attach_frame(self.space)) else {
             return Err(Unanswered::NoReply);
@@ -130,7 +130,7 @@ impl<D: Device + Drop> Connection<D> {
         Ok(())
     }
 
-    /// The frame that answers a frame of the script.
+    /// Returns the reply to a frame of the script.
     pub fn ask(&mut self, frame: &[u8]) -> Result<Vec<u8>, Unanswered> {
         if self.attached != self.space {
             self.attach()?;
@@ -147,7 +147,7 @@ impl<D: Device + Drop> Connection<D> {
         Ok(reply)
     }
 
-    /// The store, once the server has ended.
+    /// Ends the server, and returns the store.
     pub fn close(self) -> Store<D> {
         let Connection {
             alloc,
@@ -163,7 +163,7 @@ impl<D: Device + Drop> Connection<D> {
         }
     }
 
-    /// The store that a crash leaves: the planned crash, if it came.
+    /// Returns the store after a crash: the planned one, if it occurred.
     pub fn stop(self) -> Result<Store<D>, Failure> {
         let Store { disk, alloc, space } = self.close();
         match disk.stop() {
@@ -172,7 +172,7 @@ impl<D: Device + Drop> Connection<D> {
         }
     }
 
-    /// Gives back the store that a crash leaves.
+    /// Crashes, and puts the store that the crash leaves into `store`.
     pub fn crash_in(self, store: &mut Store<D>) -> Result<(), Failure> {
         *store = self.stop()?;
         Ok(())

@@ -1,6 +1,5 @@
-//! What scripts are run on: a disk, and the server over its store. The methods have no clauses, so that the proofs of
-//! what runs scripts carry nothing of a disk or of a core: what is known of one would be written out at each exit of a
-//! function that owns it.
+//! The environment in which scripts run: a disk, and the server of its store. The methods have no contracts, so that
+//! proofs about scripts needn't carry the contracts of a disk or a core through each exit of a function that owns one.
 
 use disk::{Disk, MemDisk, Slot, Torn};
 use server::{Alone, open, serve};
@@ -9,28 +8,28 @@ use store_fault::StoreFault;
 
 /// A disk that crashes as planned.
 pub trait Device {
-    /// The server over the store of such a disk.
+    /// The server of the store on such a disk.
     type Server: Drop;
 
-    /// An empty disk.
+    /// Creates an empty disk.
     fn empty(alloc: Global) -> Self;
 
-    /// Plans a crash at a call of the disk, and what it leaves.
+    /// Plans a crash at a call of the disk, and the contents that it leaves.
     fn plan_crash(&mut self, stop_at: u64, torn: Torn);
 
-    /// What a crash leaves, if there is memory.
+    /// Returns the disk after a crash, or `None` if out of memory.
     fn stop(self) -> Option<Self>;
 
-    /// How many bytes segment 0 has.
+    /// Returns the length of segment 0 in bytes.
     fn segment_length(&self) -> u64;
 
-    /// Opens the store: its server, and how many records it has.
+    /// Opens the store: returns its server and the number of its records.
     fn start(self, alloc: Global) -> Result<(Self::Server, u64), StoreFault>;
 
-    /// The frame that answers a frame, if there is one.
+    /// Returns the reply to a frame, if there is one.
     fn answer(server: &mut Self::Server, alloc: Global, frame: &[u8]) -> Option<Vec<u8>>;
 
-    /// The disk, once the server has ended.
+    /// Ends the server, and returns the disk.
     fn end(server: Self::Server) -> Self;
 }
 

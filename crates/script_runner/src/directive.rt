@@ -4,26 +4,26 @@ ghost use Rattle.script_runner.specs.Lines.{encoding_length, before_comment, is_
 
 use std::str;
 
-/// What a line of a script is, by its first word.
+/// The meaning of a script's line, by its first word.
 #[derive(Clone, Copy)]
 pub enum Directive<'a> {
-    /// Nothing, or a comment.
+    /// An empty line or a comment.
     Nothing,
-    /// The script is only run straight.
+    /// The script is only run straight: without crashes.
     Straight,
     /// A new connection, whose task is attached to space 1.
     Connect,
-    /// The length of segment 0.
+    /// The expected length of segment 0.
     Slot { length: u64 },
-    /// The hexadecimal digits of a frame's content and of its reply's.
+    /// The hexadecimal digits of the contents of a frame and its reply.
     Frame { sent: &'a [u8], wanted: &'a [u8] },
-    /// How many times a call is made, and the call, with its return code if it is refused.
+    /// The number of repetitions, and the call, with its return code if it is refused.
     Repeat { times: u32, call: &'a [u8] },
-    /// A call and its answer, or a line that can't be read.
+    /// A call and its reply, or a line that can't be read.
     Call,
 }
 
-/// How many bytes come before a comment.
+/// Returns the length of a line before its comment in bytes.
 fn encoding_length(line: &[u8]) -> usize
     ensures value { result ≡ encoding_length line.now }
     ensures within { result ≤ length line.now }
@@ -31,7 +31,7 @@ fn encoding_length(line: &[u8]) -> usize
     line.iter().take_while(|byte| **byte != b'#').count()
 }
 
-/// How many spaces come first.
+/// Returns the number of spaces at the front.
 fn count_spaces(line: &[u8]) -> usize
     ensures value { result ≡ prefix_len is_space line.now }
     ensures within { result ≤ length line.now }
@@ -39,7 +39,7 @@ fn count_spaces(line: &[u8]) -> usize
     line.iter().take_while(|byte| **byte <= b' ').count()
 }
 
-/// How many bytes the first word has.
+/// Returns the length of the first word in bytes.
 fn word_length(text: &[u8]) -> usize
     ensures value { result ≡ word_length text.now }
     ensures within { result ≤ length text.now }
@@ -47,7 +47,7 @@ fn word_length(text: &[u8]) -> usize
     text.iter().take_while(|byte| **byte > b' ').count()
 }
 
-/// What comes before a comment.
+/// Returns the line without its comment.
 fn without_comment(line: &[u8]) -> &[u8]
     ensures { result.now ≡ before_comment line.now }
 {
@@ -55,7 +55,7 @@ fn without_comment(line: &[u8]) -> &[u8]
     text
 }
 
-/// A line without the spaces in front.
+/// Returns a line without the spaces at the front.
 fn without_spaces(line: &[u8]) -> &[u8]
     ensures { result.now ≡ after_spaces line.now }
 {
@@ -63,7 +63,7 @@ fn without_spaces(line: &[u8]) -> &[u8]
     text
 }
 
-/// The first word of a line, which is empty if there is none, and what stands after it.
+/// Splits off the first word of a line, which is empty if there is none.
 fn take_word(line: &[u8]) -> (&[u8], &[u8])
     ensures word { result.0.now ≡ first_word line.now }
     ensures rest { result.1.now ≡ after_first line.now }
@@ -72,7 +72,7 @@ fn take_word(line: &[u8]) -> (&[u8], &[u8])
     text.split_at(word_length(text))
 }
 
-/// The number that a word writes in decimal digits.
+/// Returns the number with these decimal digits.
 fn number_of(word: &[u8]) -> Option<u32> {
     let Ok(word) = str::from_utf8(word) else {
         return None;
@@ -80,7 +80,7 @@ fn number_of(word: &[u8]) -> Option<u32> {
     word.parse::<u32>().ok()
 }
 
-/// The length of segment 0 that stands after the word `slot`.
+/// Returns the expected length of segment 0, from the words after `slot`.
 fn slot_length(rest: &[u8]) -> Option<u64>
     ensures { IfSome result (λ _. first_word rest.now ≡ codes "segment0") }
 {
@@ -92,7 +92,7 @@ fn slot_length(rest: &[u8]) -> Option<u64>
     Some(u64::from(number_of(length)?))
 }
 
-/// What comes before the first `=`, and what comes after it.
+/// Splits a text at the first `=`.
 fn sides(text: &[u8]) -> Option<(&[u8], &[u8])>
     ensures { IfSome result (λ r. text.now ≡ r.0.now ++ 61 ∷ r.1.now) }
 {
@@ -104,7 +104,7 @@ fn sides(text: &[u8]) -> Option<(&[u8], &[u8])>
     }
 }
 
-/// How many times a call is made, and the call, from what stands after the word `repeat`.
+/// Returns the number of repetitions and the call, from the words after `repeat`.
 fn repeated(rest: &[u8]) -> Option<(u32, &[u8])>
     ensures { IfSome result (λ r. r.1.now ≡ after_first rest.now) }
 {
@@ -112,7 +112,8 @@ fn repeated(rest: &[u8]) -> Option<(u32, &[u8])>
     Some((number_of(times)?, call))
 }
 
-/// What a line is. One that begins as a directive and can't be read as one counts as a call, which it isn't either.
+/// Returns the meaning of a line. A line that begins like a directive but isn't one counts as a call, which then can't
+/// be read.
 pub fn directive_of(line: &[u8]) -> Directive<'_>
     ensures { IsDirective result (before_comment line.now) }
 {

@@ -3,38 +3,38 @@ use std::alloc::AllocError;
 use std::fmt;
 use store_fault::StoreFault;
 
-/// Why a frame has no reply.
+/// The reason why a frame has no reply.
 #[derive(Clone, Copy)]
 pub enum Unanswered {
     /// The server ended instead.
     NoReply,
-    /// The task couldn't be attached again to the space that it was attached to.
+    /// The task couldn't be attached to its former space again.
     Detached,
 }
 
-/// How a script went wrong at a line.
+/// A difference from the expected result of a line.
 #[derive(Drop)]
 pub enum Difference {
-    /// The reply was another frame.
+    /// The reply was this frame.
     Reply(Vec<u8>),
-    /// There was none.
+    /// There was no reply.
     Unanswered(Unanswered),
-    /// Segment 0 had another length.
+    /// The length of segment 0 was this one.
     Length(u64),
     /// The store couldn't be opened.
     Unopened(StoreFault),
-    /// The store didn't have the calls that were answered and at most the one that was being made.
+    /// The number of records was neither that of the answered calls nor one more.
     Records,
 }
 
-/// A line of a script, and how the script is run.
+/// A line of a script, and the way in which the script is run.
 #[derive(Clone, Copy)]
 pub struct Place {
     pub line: u32,
     pub way: Way,
 }
 
-/// How a script is run.
+/// The way in which a script is run.
 #[derive(Clone, Copy)]
 pub enum Way {
     /// On one server.
@@ -48,9 +48,9 @@ pub enum Way {
 /// A crash at one of the device calls of an append.
 #[derive(Clone, Copy)]
 pub struct Crash {
-    /// Which of them, from 1.
+    /// The number of the device call, from 1.
     pub at: u64,
-    /// What the crash leaves.
+    /// The contents that the crash leaves.
     pub torn: Torn,
 }
 
@@ -66,7 +66,7 @@ impl fmt::Display for Way {
     }
 }
 
-/// Why a script wasn't run to its end.
+/// The reason why a script wasn't run to its end.
 #[derive(Drop)]
 pub enum Failure {
     NoMemory,
@@ -77,12 +77,12 @@ pub enum Failure {
 }
 
 impl Place {
-    /// The opening of a script's store.
+    /// Returns the place of the opening of a script's store.
     pub fn start(way: Way) -> Place {
         Place { line: 0, way }
     }
 
-    /// The failure that something else came here than was expected.
+    /// Returns the failure with this difference.
     pub fn differs(self, difference: Difference) -> Failure {
         Failure::At {
             place: self,

@@ -1,8 +1,8 @@
-//! `rows FILE..` runs scripts of calls against a server, and says where an answer differs from the one written.
+//! `rows FILE..` runs scripts of calls against a server, and reports replies that differ from the script's.
 //!
-//! Each script is run straight, on one server; on a store that crashes and is opened again after each call; and on a
-//! store that crashes at each device call of each append, after which a call that isn't known is made again.
-//! docs/ARCHITECTURE.md has the lines of a script that are no calls.
+//! Each script is run in three ways: on one server; on a store that crashes and is reopened after each call; and on a
+//! store that crashes at each device call of each append, after which a call that wasn't stored is made again.
+//! docs/ARCHITECTURE.md describes the lines of a script that aren't calls.
 #![tactic(auto)]
 
 mod connection;
@@ -22,7 +22,7 @@ use std::process::ExitCode;
 use std::{env, fs, io};
 use telling::{tell_failure, tell_fault};
 
-/// Runs a script, and prints how it went. Returns whether each answer was the one written.
+/// Runs a script, and prints the outcome. Returns true if each reply was the script's.
 fn run_read(rt: &HostRuntime, name: &str, text: &[u8], script: &Script) -> io::Result<bool> {
     match run_script::<MemDisk>(rt.alloc(), script) {
         Ok(calls) => {
@@ -38,7 +38,7 @@ fn run_read(rt: &HostRuntime, name: &str, text: &[u8], script: &Script) -> io::R
     }
 }
 
-/// Runs the script of a text, and prints how it went.
+/// Runs the script in a text, and prints the outcome.
 fn run_text(rt: &HostRuntime, name: &str, text: &[u8]) -> io::Result<bool> {
     match read_script(rt.alloc(), text) {
         Ok(script) => {
@@ -53,13 +53,13 @@ fn run_text(rt: &HostRuntime, name: &str, text: &[u8]) -> io::Result<bool> {
     }
 }
 
-/// Runs the script of a file, and prints how it went.
+/// Runs the script in a file, and prints the outcome.
 fn run_file(rt: &HostRuntime, name: &str) -> io::Result<bool> {
     let text = fs::read(rt, name)?;
     run_text(rt, name, &text)
 }
 
-/// Runs the scripts of the files that the command line names.
+/// Runs the scripts in the files that the command line names.
 fn run_files(rt: &HostRuntime) -> io::Result<bool> {
     let mut is_well = true;
     for name in env::args(rt)?.skip(1) {

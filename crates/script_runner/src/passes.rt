@@ -5,14 +5,14 @@ use crate::row::{Ask, Script, ScriptLine, ScriptStep, is_wanted};
 use disk::Torn;
 use std::alloc::Global;
 
-/// How many device calls `open` makes on an existing store: four syncs, four reads of headers, three of the image, two
-/// of the segment, which is one piece here, and two that end it.
+/// Number of device calls in `open` of an existing store: four syncs, four reads of headers, three of the image, two of
+/// the segment, which is one piece here, and two that end it.
 const OPENING_CALLS: u64 = 15;
 
-/// How many device calls an append makes.
+/// Number of device calls in an append.
 const APPEND_CALLS: u64 = 4;
 
-/// What a crash is to leave of the writes since the last sync.
+/// The contents that a crash leaves of the writes since the last sync.
 static TORN: [Torn; 6] = [
     Torn::Old,
     Torn::New,
@@ -22,7 +22,7 @@ static TORN: [Torn; 6] = [
     Torn::Fill(0xff),
 ];
 
-/// Whether a reply is what it should be.
+/// Checks that a reply is the expected one.
 fn check_reply(place: Place, reply: Vec<u8>, ask: &Ask) -> Result<(), Failure> {
     if is_wanted(&reply, &ask.wanted) {
         Ok(())
@@ -31,7 +31,7 @@ fn check_reply(place: Place, reply: Vec<u8>, ask: &Ask) -> Result<(), Failure> {
     }
 }
 
-/// Sends a frame, and checks whether it gets the answer that it should.
+/// Sends a frame, and checks that its reply is the expected one.
 fn check_ask<D: Device + Drop>(
     place: Place,
     connection: &mut Connection<D>,
@@ -43,7 +43,7 @@ fn check_ask<D: Device + Drop>(
     }
 }
 
-/// Whether segment 0 has the length that it should have.
+/// Checks that segment 0 has the expected length.
 fn check_length<D: Device + Drop>(
     place: Place,
     store: &Store<D>,
@@ -57,7 +57,7 @@ fn check_length<D: Device + Drop>(
     }
 }
 
-/// Sends a frame as many times as its row says.
+/// Sends a frame as often as its line says.
 fn check_asks<D: Device + Drop>(
     place: Place,
     connection: &mut Connection<D>,
@@ -69,7 +69,7 @@ fn check_asks<D: Device + Drop>(
     Ok(())
 }
 
-/// Opens again a store whose slot is looked at.
+/// Reopens a store in order to check the length of its segment.
 fn opened_of_length<D: Device + Drop>(
     store: Store<D>,
     place: Place,
@@ -79,7 +79,7 @@ fn opened_of_length<D: Device + Drop>(
     Connection::open(store, place)
 }
 
-/// A line of a script on a server that goes on after it. To look at a slot, the server ends and another begins.
+/// Runs a line on a server, which continues. To check a slot's length, the server ends and another one begins.
 fn straight_line<D: Device + Drop>(
     mut connection: Connection<D>,
     row: &ScriptLine,
@@ -99,7 +99,7 @@ fn straight_line<D: Device + Drop>(
     }
 }
 
-/// A script on one server.
+/// Runs a script on one server.
 fn run_straight<D: Device + Drop>(alloc: Global, rows: &[ScriptLine]) -> Result<(), Failure> {
     let store: Store<D> = Store::new(alloc);
     let mut connection = Connection::open(store, Place::start(Way::Straight))?;
@@ -109,13 +109,13 @@ fn run_straight<D: Device + Drop>(alloc: Global, rows: &[ScriptLine]) -> Result<
     Ok(())
 }
 
-/// A new store, which has been opened once: that makes it, by other device calls than later openings.
+/// Creates a new store and opens it once, because the first opening makes other device calls than later ones.
 fn new_store<D: Device + Drop>(alloc: Global, way: Way) -> Result<Store<D>, Failure> {
     let connection: Connection<D> = Connection::open(Store::new(alloc), Place::start(way))?;
     connection.stop()
 }
 
-/// A frame on a server of its own, which crashes once the frame is answered.
+/// Sends a frame to a server of its own, which crashes once the frame is answered.
 fn reopened_ask<D: Device + Drop>(
     store: &mut Store<D>,
     place: Place,
@@ -127,7 +127,7 @@ fn reopened_ask<D: Device + Drop>(
     outcome
 }
 
-/// A line of a script on a store that crashes and is opened again after each call.
+/// Runs a line on a store that crashes and is reopened after each call.
 fn reopened_line<D: Device + Drop>(store: &mut Store<D>, row: &ScriptLine) -> Result<(), Failure> {
     let place = row.place(Way::Reopened);
     match &row.step {
@@ -152,22 +152,22 @@ fn reopened_lines<D: Device + Drop>(
     Ok(())
 }
 
-/// A script on a store that crashes and is opened again after each call.
+/// Runs a script on a store that crashes and is reopened after each call.
 fn run_reopened<D: Device + Drop>(alloc: Global, rows: &[ScriptLine]) -> Result<(), Failure> {
     let mut store: Store<D> = new_store(alloc, Way::Reopened)?;
     reopened_lines(&mut store, rows)
 }
 
-/// What became of a frame whose append was to be stopped.
+/// The outcome of a frame whose append was to be stopped.
 #[derive(Clone, Copy)]
 struct Crashed {
-    /// How many records the store had before.
+    /// Number of records in the store before.
     records: u64,
-    /// Whether the frame was answered all the same, since nothing was appended.
+    /// True if the frame was answered nevertheless, because nothing was appended.
     is_answered: bool,
 }
 
-/// Sends a frame, and returns whether it got an answer, the one that it should.
+/// Sends a frame. Returns true if it got a reply, which must be the expected one.
 fn is_answered<D: Device + Drop>(
     place: Place,
     connection: &mut Connection<D>,
@@ -183,7 +183,7 @@ fn is_answered<D: Device + Drop>(
     }
 }
 
-/// A frame on a store that crashes at a device call of its append.
+/// Sends a frame to a store that crashes at a device call of its append.
 fn crashed_once<D: Device + Drop>(
     store: &mut Store<D>,
     stop: Crash,
@@ -202,7 +202,7 @@ fn crashed_once<D: Device + Drop>(
     })
 }
 
-/// Makes a call again that was stopped, if the store doesn't know it.
+/// Makes a call that was stopped again, if the store doesn't have it.
 fn ask_again<D: Device + Drop>(
     place: Place,
     connection: &mut Connection<D>,
@@ -214,7 +214,7 @@ fn ask_again<D: Device + Drop>(
         is_answered,
     } = stopped;
     let found = connection.records();
-    // What was answered has no record, since the crash came before the end of any append.
+    // An answered call has no record, because the crash precedes the end of every append.
     if found > records.saturating_add(u64::from(!is_answered)) || found < records {
         return Err(place.differs(Difference::Records));
     }
@@ -224,8 +224,8 @@ fn ask_again<D: Device + Drop>(
     Ok(())
 }
 
-/// A frame on a store that crashes at a device call of its append. If the store doesn't know the call then, it is made
-/// again.
+/// Sends a frame to a store that crashes at a device call of its append, and makes the call again if the store doesn't
+/// have it.
 fn crashed_ask<D: Device + Drop>(
     store: &mut Store<D>,
     stop: Crash,
@@ -239,7 +239,7 @@ fn crashed_ask<D: Device + Drop>(
     outcome
 }
 
-/// A line of a script on a store that crashes at one device call of each append.
+/// Runs a line on a store that crashes at one device call of each append.
 fn crashed_line<D: Device + Drop>(
     store: &mut Store<D>,
     stop: Crash,
@@ -252,7 +252,7 @@ fn crashed_line<D: Device + Drop>(
             }
         }
         ScriptStep::Connect => store.connect_anew(),
-        // Bytes that a crash left after the last gate may still stand there.
+        // Bytes that a crash left after the last gate may still be there.
         ScriptStep::Length(_) => {}
     }
     Ok(())
@@ -269,7 +269,7 @@ fn crashed_lines<D: Device + Drop>(
     Ok(())
 }
 
-/// A script on a store that crashes at one device call of each append.
+/// Runs a script on a store that crashes at one device call of each append.
 fn run_crashed<D: Device + Drop>(
     alloc: Global,
     rows: &[ScriptLine],
@@ -279,7 +279,7 @@ fn run_crashed<D: Device + Drop>(
     crashed_lines(&mut store, stop, rows)
 }
 
-/// A script with each crash, at each device call and with everything that it may leave.
+/// Runs a script once for each device call and each possible result of a crash.
 fn run_crashes<D: Device + Drop>(alloc: Global, rows: &[ScriptLine]) -> Result<(), Failure> {
     for torn in &TORN {
         for at in 1..=APPEND_CALLS {
@@ -289,7 +289,7 @@ fn run_crashes<D: Device + Drop>(alloc: Global, rows: &[ScriptLine]) -> Result<(
     Ok(())
 }
 
-/// How many calls a script has.
+/// Returns the number of calls in a script.
 fn count_calls(rows: &[ScriptLine]) -> u64 {
     let mut calls = 0_u64;
     for row in rows {
@@ -300,7 +300,7 @@ fn count_calls(rows: &[ScriptLine]) -> u64 {
     calls
 }
 
-/// Runs a script in each way, and counts its calls.
+/// Runs a script in each way, and returns the number of its calls.
 pub fn run_script<D: Device + Drop>(alloc: Global, script: &Script) -> Result<u64, Failure> {
     run_straight::<D>(alloc, &script.rows)?;
     if !script.is_straight {

@@ -13,16 +13,16 @@ use std::alloc::{AllocError, AllocFailed, Global};
 use std::fmt;
 use words::push_word;
 
-/// Why a script can't be read.
+/// The reason why a script can't be read.
 #[derive(Clone, Copy)]
 pub enum ReadFault {
-    /// Out of memory for what the script holds.
+    /// Out of memory for the script's contents.
     NoMemory,
     /// A line is neither a call nor a directive.
     Line { line: u32, fault: LineFault },
     /// The digits of a frame aren't digits.
     Digits { line: u32 },
-    /// A reply is longer than any that comes.
+    /// A reply is longer than any reply can be.
     Long { line: u32 },
 }
 
@@ -50,7 +50,7 @@ impl<T: Drop> From<AllocFailed<T>> for ReadFault {
     }
 }
 
-/// The bytes of a frame: its length, and its content.
+/// Returns the bytes of a frame: its length, and its content.
 fn frame_of(alloc: Global, content: &[u8]) -> Result<Vec<u8>, AllocError> {
     let mut frame = Vec::new(alloc);
     let length = u32::try_from(content.len()).unwrap_or(u32::MAX);
@@ -59,7 +59,7 @@ fn frame_of(alloc: Global, content: &[u8]) -> Result<Vec<u8>, AllocError> {
     Ok(frame)
 }
 
-/// The frame of a call. A numbered call is one attempt, and its frame says so.
+/// Returns the frame of a call. A numbered call is one attempt.
 fn call_frame(alloc: Global, call: &Call) -> Result<Vec<u8>, AllocError> {
     let mut content = Vec::new(alloc);
     match call {
@@ -69,7 +69,7 @@ fn call_frame(alloc: Global, call: &Call) -> Result<Vec<u8>, AllocError> {
     frame_of(alloc, &content)
 }
 
-/// How many names, members or bytes of a message a reply has.
+/// Returns the number of names, members or bytes of a message in a reply.
 fn count_plain_items(reply: &PlainReply) -> usize
     ensures { result ≡ plain_item_count reply.now }
 {
@@ -81,7 +81,7 @@ fn count_plain_items(reply: &PlainReply) -> usize
     }
 }
 
-/// The same of any reply; of one to a numbered call, those of the reply in it.
+/// Returns the number of items in any reply. For a numbered call it is that of the inner reply.
 fn count_items(reply: &Reply) -> usize
     ensures { result ≡ item_count reply.now }
 {
@@ -91,7 +91,7 @@ fn count_items(reply: &Reply) -> usize
     }
 }
 
-/// Whether a reply has few enough names, members or bytes of a message to be encoded.
+/// Returns true if a reply has few enough names, members or bytes of a message to be encoded.
 #[tactic(auto, using(crate::proofs::Lengths::short_reply))]
 fn is_short(reply: &Reply) -> bool
     ensures { IsTrue result → length (reply_encoding reply.now) < 2 ^ 32 }
@@ -99,7 +99,7 @@ fn is_short(reply: &Reply) -> bool
     count_items(reply) <= MAX_FRAME_CONTENT as usize
 }
 
-/// The frame of a reply, which has to be short enough.
+/// Returns the frame of a reply, or the fault that it is too long.
 fn reply_frame(alloc: Global, reply: &Reply, line: u32) -> Result<Vec<u8>, ReadFault> {
     if !is_short(reply) {
         return Err(ReadFault::Long { line });
@@ -109,7 +109,7 @@ fn reply_frame(alloc: Global, reply: &Reply, line: u32) -> Result<Vec<u8>, ReadF
     Ok(frame_of(alloc, &content)?)
 }
 
-/// The bytes that hexadecimal digits write, with any spaces between them.
+/// Returns the bytes with these hexadecimal digits, which may have spaces between them.
 fn bytes_of(alloc: Global, text: &[u8], line: u32) -> Result<Vec<u8>, ReadFault> {
     let mut digits = Vec::new(alloc);
     for byte in text {
@@ -123,7 +123,7 @@ fn bytes_of(alloc: Global, text: &[u8], line: u32) -> Result<Vec<u8>, ReadFault>
     }
 }
 
-/// The call of a line and its answer.
+/// Returns the call of a line and its reply.
 fn exchange_of(alloc: Global, text: &[u8], line: u32) -> Result<Option<Exchange>, ReadFault> {
     match read_line(alloc, text) {
         Ok(exchange) => Ok(exchange),
@@ -131,7 +131,7 @@ fn exchange_of(alloc: Global, text: &[u8], line: u32) -> Result<Option<Exchange>
     }
 }
 
-/// The return code of a reply.
+/// Returns the return code of a reply.
 fn code_of(reply: &Reply) -> u32 {
     match reply {
         Reply::Plain(PlainReply::Refused { code, .. })
@@ -140,7 +140,7 @@ fn code_of(reply: &Reply) -> u32 {
     }
 }
 
-/// A call that is made `times` times, each with an expected answer.
+/// Returns the step that makes a call `times` times, each with the expected reply.
 fn asking(alloc: Global, call: Call, wanted: Wanted, times: u32) -> Result<ScriptStep, ReadFault> {
     match call_frame(alloc, &call) {
         Ok(frame) => Ok(ScriptStep::Ask(Ask {
@@ -156,7 +156,7 @@ fn asking(alloc: Global, call: Call, wanted: Wanted, times: u32) -> Result<Scrip
     }
 }
 
-/// A call and its answer, as a step.
+/// Returns the step that makes a call with its reply.
 fn call_step(alloc: Global, exchange: Exchange, line: u32) -> Result<ScriptStep, ReadFault> {
     let Exchange { call, reply } = exchange;
     let wanted = reply_frame(alloc, &reply, line);
@@ -170,7 +170,7 @@ fn call_step(alloc: Global, exchange: Exchange, line: u32) -> Result<ScriptStep,
     }
 }
 
-/// A call that is made `times` times, each with the return code that stands after it.
+/// Returns the step that makes a call `times` times, each with the return code at the end of the line.
 fn refused_step(
     alloc: Global,
     times: u32,
@@ -185,7 +185,7 @@ fn refused_step(
     Ok(Some(asking(alloc, call, wanted, times)?))
 }
 
-/// A call that is made `times` times, each with success.
+/// Returns the step that makes a call `times` times, each with success.
 fn done_step(alloc: Global, times: u32, text: &[u8], line: u32) -> Result<ScriptStep, ReadFault> {
     match read_request_line(alloc, text) {
         Ok(call) => asking(alloc, call, Wanted::Code(0), times),
@@ -193,7 +193,8 @@ fn done_step(alloc: Global, times: u32, text: &[u8], line: u32) -> Result<Script
     }
 }
 
-/// A call that is made `times` times, each with the return code that stands after it, or with success.
+/// Returns the step that makes a call `times` times, each with the return code at the end of the line, or with success
+/// if there is none.
 fn repeat_step(
     alloc: Global,
     times: u32,
@@ -206,7 +207,7 @@ fn repeat_step(
     Ok(Some(done_step(alloc, times, text, line)?))
 }
 
-/// A frame of these digits, and its answer.
+/// Returns the step that sends a frame with these digits and expects its reply.
 fn frame_step(
     alloc: Global,
     sent: &[u8],
@@ -223,7 +224,7 @@ fn frame_step(
     }))
 }
 
-/// What a line does or looks at, if anything.
+/// Returns the step of a line, if it has one.
 fn step_of(alloc: Global, text: &[u8], line: u32) -> Result<Option<ScriptStep>, ReadFault> {
     match directive_of(text) {
         Directive::Nothing | Directive::Straight => Ok(None),
@@ -238,7 +239,7 @@ fn step_of(alloc: Global, text: &[u8], line: u32) -> Result<Option<ScriptStep>, 
     }
 }
 
-/// Adds the row of a line, if it has one.
+/// Appends the step of a line, if it has one.
 fn add_line(
     alloc: Global,
     rows: &mut Vec<ScriptLine>,
@@ -251,7 +252,7 @@ fn add_line(
     Ok(())
 }
 
-/// Adds the rows of a script's lines. Returns whether the script is only run straight.
+/// Appends the steps of a script's lines. Returns true if the script is only run straight.
 fn add_lines(alloc: Global, rows: &mut Vec<ScriptLine>, text: &[u8]) -> Result<bool, ReadFault> {
     let mut is_straight = false;
     let mut line = 0_u32;
@@ -265,7 +266,7 @@ fn add_lines(alloc: Global, rows: &mut Vec<ScriptLine>, text: &[u8]) -> Result<b
     Ok(is_straight)
 }
 
-/// The lines of a script.
+/// Returns the lines of a script.
 pub fn read_script(alloc: Global, text: &[u8]) -> Result<Script, ReadFault> {
     let mut rows = Vec::new(alloc);
     match add_lines(alloc, &mut rows, text) {

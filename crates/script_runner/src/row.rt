@@ -5,48 +5,48 @@ use crate::failure::{Place, Way};
 use ipc_model::Call;
 use words::take_word;
 
-/// What a reply has to be.
+/// The expected reply.
 #[derive(Drop)]
 pub enum Wanted {
-    /// This frame, with its length in front.
+    /// This frame, which begins with its length.
     Frame(Vec<u8>),
-    /// A frame with this return code, whatever its results are.
+    /// A frame with this return code and any results.
     Code(u32),
 }
 
-/// A frame that is sent, and what answers it.
+/// A frame to be sent, and its expected reply.
 #[derive(Drop)]
 pub struct Ask {
-    /// The frame, with its length in front.
+    /// The frame, which begins with its length.
     pub frame: Vec<u8>,
     pub wanted: Wanted,
-    /// How many times it is sent, each with that answer.
+    /// Number of times that it is sent, each with that reply.
     pub times: u32,
     /// The call that the frame encodes, if the line has one.
     pub call: Option<Call>,
 }
 
-/// What a line of a script does or looks at.
+/// The step of a script's line.
 #[derive(Drop)]
 pub enum ScriptStep {
-    /// A frame is sent.
+    /// Sends a frame.
     Ask(Ask),
-    /// The connection ends, and another begins.
+    /// Ends the connection and begins another one.
     Connect,
-    /// Segment 0 has this many bytes.
+    /// Checks the length of segment 0 in bytes.
     Length(u64),
 }
 
-/// A line of a script that isn't a comment.
+/// A line of a script with a step.
 #[derive(Drop)]
 pub struct ScriptLine {
-    /// Its number, from 1.
+    /// The line's number, from 1.
     pub line: u32,
     pub step: ScriptStep,
 }
 
 impl ScriptLine {
-    /// The row as a script is run.
+    /// Returns the line and the way in which the script is run.
     pub fn place(&self, way: Way) -> Place {
         Place {
             line: self.line,
@@ -58,12 +58,12 @@ impl ScriptLine {
 /// A script as it is run.
 #[derive(Drop)]
 pub struct Script {
-    /// Whether it is only run straight.
+    /// True if it is only run straight: without crashes.
     pub is_straight: bool,
     pub rows: Vec<ScriptLine>,
 }
 
-/// The return code in a reply's frame, after its length and the call's number.
+/// Returns the return code in a reply's frame.
 pub fn code_of(frame: &[u8]) -> Option<u32>
     ensures found { IfSome result (HasCode frame.now) }
     ensures none { IfNone result (length frame.now < 12) }
@@ -74,7 +74,7 @@ pub fn code_of(frame: &[u8]) -> Option<u32>
     Some(code)
 }
 
-/// Whether a reply's frame is what it has to be.
+/// Returns true if a reply's frame is the expected one.
 pub fn is_wanted(reply: &[u8], wanted: &Wanted) -> bool
     ensures wanted { IsTrue result → Meets wanted.now reply.now }
     ensures same { IsSame wanted.now reply.now → IsTrue result }

@@ -7,7 +7,7 @@ use script_printing::{push_call, push_reply};
 use std::alloc::{AllocError, Global};
 use std::{io, str};
 
-/// The reply to a call that a frame is, if it is one.
+/// Decodes the frame of a reply to a call, or returns `None` if it isn't one.
 fn reply_of(alloc: Global, call: &Call, frame: &[u8]) -> Result<Option<Reply>, AllocError> {
     match frame {
         [_, _, _, _, content @ ..] => read_reply(alloc, call.number(), content),
@@ -15,7 +15,7 @@ fn reply_of(alloc: Global, call: &Call, frame: &[u8]) -> Result<Option<Reply>, A
     }
 }
 
-/// A call and its reply as the line of a script, or the bytes of the reply's frame.
+/// Returns a call and its reply as the line of a script, or the bytes of the reply's frame.
 fn exchange_text(
     alloc: Global,
     call: &Call,
@@ -31,7 +31,7 @@ fn exchange_text(
     }
 }
 
-/// A reply's frame as the line of a script, if it can be read as one, else its bytes.
+/// Returns a reply's frame as the line of a script, or its bytes if it isn't a reply.
 fn frame_encoding(alloc: Global, call: Option<&Call>, frame: &[u8]) -> Result<String, AllocError> {
     if let Some(call) = call
         && let Some(reply) = reply_of(alloc, call, frame)?
@@ -43,7 +43,7 @@ fn frame_encoding(alloc: Global, call: Option<&Call>, frame: &[u8]) -> Result<St
     hex::encode(alloc, frame)
 }
 
-/// The call of a line of a script, if it has one.
+/// Returns the call of a line of a script, if it has one.
 fn call_of(script: &Script, line: u32) -> Option<&Call> {
     for row in &script.rows {
         if row.line == line
@@ -55,7 +55,7 @@ fn call_of(script: &Script, line: u32) -> Option<&Call> {
     None
 }
 
-/// A line of a text, by its number from 1.
+/// Returns the line of a text with this number, from 1.
 fn line_of(text: &[u8], number: u32) -> &str {
     let mut line = 0_u32;
     for part in text.split(|byte| *byte == b'\n') {
@@ -67,7 +67,7 @@ fn line_of(text: &[u8], number: u32) -> &str {
     ""
 }
 
-/// What came in place of what a line expects.
+/// Describes the actual result in place of the expected one.
 fn difference_text(
     alloc: Global,
     script: &Script,
@@ -86,12 +86,12 @@ fn difference_text(
     }
 }
 
-/// Prints that a script can't be read.
+/// Prints the fault of a script that can't be read.
 pub fn tell_fault(rt: &impl Print, name: &str, fault: &ReadFault) -> io::Result<()> {
     println!(rt; "{name} {fault}")
 }
 
-/// Prints where a script went wrong, what was expected and what came.
+/// Prints the line at which a script failed, the expected and the actual result.
 pub fn tell_failure(
     rt: &(impl Print + AllocGlobal),
     name: &str,

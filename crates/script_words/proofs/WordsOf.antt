@@ -9,11 +9,11 @@ use Rattle.std.proofs.lemmas.Grind.{flat_map-append}
 use Rattle.std.proofs.lemmas.List.{append-nil}
 use Rattle.script_words.specs.Spaced.{is_space, is_word_byte, begins_word, in_front, words_of, word_end, column_of, spaced, line_of}
 
--- a byte that is no space and doesn't begin a comment is of a word
+-- a byte that isn't a space and doesn't begin a comment is a byte of a word
 word_byte : (c : ℕ) → is_space c ≡ false → (c == 35) ≡ false → is_word_byte c ≡ true
 word_byte c visible plain = grind (arith, nat_tests)
 
--- and a byte of a word is neither
+-- a byte of a word is neither a space nor begins a comment
 grind_visible : (c : ℕ) → is_word_byte c ≡ true → (is_space c ≡ false) × ((c == 35) ≡ false)
 grind_visible c is = (grind (arith, nat_tests), grind (arith, nat_tests))
 
@@ -27,7 +27,7 @@ after_spaces (c ∷ cs) =
       | false ↦ λ (is : _). refl
     ] refl
 
--- no word is left if none begins after the spaces
+-- there is no word if none begins after the spaces
 pub no_word : (s : List ℕ) → prefix_len is_word_byte (drop (prefix_len is_space s) s) ≡ 0 → words_of s ≡ []
 unfolding words_of
 no_word [] none = refl
@@ -45,7 +45,7 @@ no_word (c ∷ cs) none =
           ] refl
     ] refl none
 
--- a word begins where a byte belongs to one
+-- a byte of a word begins a word
 pub word_front : (c : ℕ) (cs : List ℕ) → is_word_byte c ≡ true
     → words_of (c ∷ cs) ≡ (c ∷ take (prefix_len is_word_byte cs) cs) ∷ words_of (drop (prefix_len is_word_byte cs) cs)
 unfolding words_of
@@ -61,7 +61,7 @@ word_front c (d ∷ ds) is =
       | false ↦ λ (_ : _). rw (visible.0, visible.1) refl
     ] refl
 
--- a word: some bytes, and each of them one of a word
+-- all bytes are bytes of words
 abbrev pub are_word_bytes : List ℕ → Bool
 are_word_bytes [] = true
 are_word_bytes (c ∷ cs) = is_word_byte c && are_word_bytes cs
@@ -74,7 +74,7 @@ abbrev pub are_words : List (List ℕ) → Bool
 are_words [] = true
 are_words (w ∷ ws) = is_word w && are_words ws
 
--- a word ends before the first byte that can't be in one
+-- a word ends before the first byte that can't be in a word
 whole_word : (cs rest : List ℕ) → are_word_bytes cs ≡ true → begins_word rest ≡ false
     → prefix_len is_word_byte (cs ++ rest) ≡ length cs
 whole_word [] [] are ends = refl
@@ -116,7 +116,7 @@ spaced_again (w ∷ ws) are =
     let parts = and_parts (is_word w) (are_words ws) are in
     one_word w (spaced ws) parts.0 (spaced_ends ws) ∙ ap (λ (l : List (List ℕ)). w ∷ l) (spaced_again ws parts.1)
 
--- the words of a line made of words are these words
+-- the words of a line built from words are these words
 pub line_again : (ws : List (List ℕ)) → are_words ws ≡ true → words_of (line_of ws) ≡ ws
 unfolding words_of
 line_again [] are = refl
@@ -124,7 +124,7 @@ line_again (w ∷ ws) are =
     let parts = and_parts (is_word w) (are_words ws) are in
     one_word w (spaced ws) parts.0 (spaced_ends ws) ∙ ap (λ (l : List (List ℕ)). w ∷ l) (spaced_again ws parts.1)
 
--- words after words
+-- words appended after words
 pub spaced_more : (old : List ℕ) (a b : List (List ℕ)) → (old ++ spaced a) ++ spaced b ≡ old ++ spaced (a ++ b)
 unfolding spaced
 spaced_more old a b =
@@ -158,7 +158,7 @@ first_word s t n is count some = sym (after_spaces s) ∙ ap words_of (sym is) �
 
 pub ruleset spaced_laws = (spaced_more, spaced_none)
 
--- what is added in two steps, and in three, of which only the last may fail
+-- bytes appended in two steps, and in three, of which only the last can fail
 pub pushed_two : {E : Type 0} (r : Result ⊤ E) (old first second : List ℕ) (a b : List (List ℕ))
     → first ≡ old ++ spaced a → OnOk r (second ≡ first ++ spaced b)
     → OnOk r (second ≡ old ++ spaced (a ++ b))
@@ -171,7 +171,7 @@ pub pushed_three : {E : Type 0} (r : Result ⊤ E) (old first second third : Lis
 pushed_three r old first second third a b c one two three =
     pushed_two r old second third (a ++ b) c (two ∙ ap (λ (l : List ℕ). l ++ spaced b) one ∙ spaced_more old a b) three
 
--- nothing is left to add
+-- no words remain
 pub rest_none : (line old : List ℕ) (rest all : List (List ℕ)) → rest ≡ [] → line ++ spaced rest ≡ old ++ spaced all
     → line ≡ old ++ spaced all
 rest_none line old rest all none is =
@@ -202,7 +202,7 @@ words_fit (c ∷ cs) =
           ]
     ]
 
--- one more word is passed
+-- one more word is skipped
 pub column_next : (column left : ℕ) (rest : List ℕ) → 0 < left
     → (column + word_end rest) + column_of (left - 1) (drop (word_end rest) rest) ≡ column + column_of left rest
 unfolding column_of

@@ -1,7 +1,7 @@
--- What writers and readers of items share.
+-- Definitions that writers and readers of items share.
 use Rattle.std.specs.Prelude.{ℕ, ◌+◌, ◌*◌, ◌%◌, ◌==◌, List, [], ◌∷◌, if◌then◌else◌}
 
--- the zeros after so many bytes of an item, up to a multiple of four
+-- the zeros that pad n bytes of an item to a multiple of four
 abbrev pub zeros : ℕ → List ℕ
 zeros n = if n % 4 == 0 then [] else if n % 4 == 1 then 0 ∷ 0 ∷ 0 ∷ [] else if n % 4 == 2 then 0 ∷ 0 ∷ [] else 0 ∷ []
 

@@ -6,7 +6,7 @@ use Rattle.script_words.specs.declared.kind.Kind.{Kind}
 use Rattle.script_words.specs.declared.kind.Kind.TheVariants as kind
 use Rattle.script_words.specs.Numbers.{hexadecimal, signed, number_of_word}
 
--- the word that stands for a number, if there is one
+-- the word of a number, if it has one
 abbrev pub name_of : Kind → ℕ → Option (List ℕ)
 name_of kind.Right n =
     if n == 0 then Some (codes "send") else if n == 1 then Some (codes "receive") else if n == 2 then Some
@@ -28,7 +28,7 @@ name_of kind.Element n =
     else if n == 21 then Some (codes "make_send_once") else None
 name_of k n = None
 
--- a number that no word stands for
+-- the digits of a number that has no word
 abbrev pub number_text : Kind → ℕ → List ℕ
 number_text kind.Hexadecimal n = hexadecimal n
 number_text kind.Signed n = signed n
@@ -38,7 +38,7 @@ number_text k n = decimal n
 unfoldable pub value_word : Kind → ℕ → List ℕ
 value_word k n = unwrap_or (name_of k n) (number_text k n)
 
--- each number that a word stands for, of any kind
+-- all numbers that have words, of any kind
 abbrev pub all_named : List ℕ
 all_named = 0 ∷ 1 ∷ 2 ∷ 3 ∷ 4 ∷ 16 ∷ 17 ∷ 18 ∷ 19 ∷ 20 ∷ 21 ∷ 69 ∷ 70 ∷ 72 ∷ []
 
@@ -49,6 +49,6 @@ abbrev pub begins_with_letter : List ℕ → Bool
 begins_with_letter [] = false
 begins_with_letter (c ∷ cs) = nat_le 97 c
 
--- the number that a word stands for, or that its digits give
+-- the number with this word, or the number that its digits give
 unfoldable pub read_word : Kind → List ℕ → Option ℕ
 read_word k word = if begins_with_letter word then find (is_name k word) all_named else number_of_word word

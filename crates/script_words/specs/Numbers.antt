@@ -5,15 +5,15 @@ use Rattle.std.specs.Fmt.{digits}
 use Rattle.std.specs.List.{starts_with}
 use Rattle.std.specs.Option.{option_map}
 
--- a name or a type
+-- hexadecimal digits after 0x, for names and types
 abbrev pub hexadecimal : ℕ → List ℕ
 hexadecimal n = codes "0x" ++ digits 16 false n
 
--- a number in two's complement
+-- the signed decimal digits of a number in two's complement
 abbrev pub signed : ℕ → List ℕ
 signed n = if nat_lt n (2 ^ 31) then decimal n else codes "-" ++ decimal (2 ^ 32 - n)
 
--- a number with one digit more, below 2 ^ 32
+-- a number with one more digit, if it is below 2 ^ 32
 abbrev pub with_digit : ℕ → ℕ → ℕ → Option ℕ
 with_digit radix n c =
     if nat_lt (digit_value c) radix && nat_lt (n * radix + digit_value c) (2 ^ 32) then Some (n * radix + digit_value c)
@@ -23,7 +23,7 @@ abbrev pub number_after : (ℕ → Option ℕ) → Option ℕ → Option ℕ
 number_after f None = None
 number_after f (Some n) = f n
 
--- the number that digits give, after those of n
+-- the number with the digits of n and these digits
 abbrev pub number_from : ℕ → ℕ → List ℕ → Option ℕ
 number_from radix n [] = Some n
 number_from radix n (c ∷ cs) = number_after (λ m. number_from radix m cs) (with_digit radix n c)

@@ -2,11 +2,11 @@
 use Rattle.std.specs.Prelude.{ℕ, zero, suc, ◌+◌, Bool, false, ◌==◌, nat_le, nat_lt, not, ◌&&◌, List, [], ◌∷◌, ◌++◌, drop, flat_map, if◌then◌else◌}
 use Rattle.std.specs.List.{prefix_len}
 
--- what stands between words: a space, a tab, or any other byte that isn't above the space
+-- a byte between words: a space, a tab, or any other byte that isn't above the space
 abbrev pub is_space : ℕ → Bool
 is_space c = nat_le c 32
 
--- any other byte but '#', with which a comment begins
+-- a byte of a word: any other byte but '#', with which a comment begins
 abbrev pub is_word_byte : ℕ → Bool
 is_word_byte c = nat_lt 32 c && not (c == 35)
 
@@ -26,16 +26,16 @@ words_of (c ∷ cs) =
     else if c == 35 then []
     else if begins_word cs then in_front c (words_of cs) else (c ∷ []) ∷ words_of cs
 
--- how many bytes the first word has, with the spaces before it
+-- the length of the first word with the spaces before it
 abbrev pub word_end : List ℕ → ℕ
 word_end line = prefix_len is_space line + prefix_len is_word_byte (drop (prefix_len is_space line) line)
 
--- how many bytes stand before what follows the first words, this many, including the spaces before it
+-- the offset of what follows the first words of a line, and the spaces after them
 unfoldable pub column_of : ℕ → List ℕ → ℕ
 column_of zero line = prefix_len is_space line
 column_of (suc n) line = word_end line + column_of n (drop (word_end line) line)
 
--- words after something else: a space before each
+-- words after something else, each after a space
 unfoldable pub spaced : List (List ℕ) → List ℕ
 spaced words = flat_map (λ word. 32 ∷ word) words
 

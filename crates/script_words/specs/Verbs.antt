@@ -1,4 +1,4 @@
--- The first words of lines: the calls' names.
+-- The first words of lines: the names of the calls.
 use Rattle.std.specs.Prelude.{ℕ, List, [], ◌∷◌, codes}
 use Rattle.script_words.specs.declared.verb.Verb.{Verb}
 use Rattle.script_words.specs.declared.verb.Verb.TheVariants as verb

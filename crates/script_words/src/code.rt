@@ -5,7 +5,7 @@ ghost use Rattle.script_words.specs.Codes.{code_word};
 
 use codes::KernReturn;
 
-/// The name of a code in Mach's headers.
+/// Returns the name of a code in Mach's headers.
 pub fn code_word(code: KernReturn) -> &'static [u8]
     ensures { result.now ≡ code_word code }
 {
@@ -45,7 +45,7 @@ pub fn code_word(code: KernReturn) -> &'static [u8]
     }
 }
 
-/// The code with this name.
+/// Returns the code with this name.
 pub fn code_of_word(word: &[u8]) -> Option<KernReturn>
     ensures { result ≡ find (λ code. bytes_eq (code_word code) word.now) all_codes }
 {

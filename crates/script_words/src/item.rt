@@ -4,13 +4,13 @@ ghost use Rattle.script_words.specs.Items.{zeros, descriptor};
 /// The type of an element of an item of bytes.
 pub const BYTE_TYPE: u32 = 9;
 
-/// The bits of an element of an item of bytes.
+/// Size in bits of an element of an item of bytes.
 pub const BYTE_BITS: u32 = 8;
 
-/// The bits of an element of an item of words.
+/// Size in bits of an element of an item of words.
 pub const WORD_BITS: u32 = 32;
 
-/// The word of a short, inline descriptor.
+/// Returns the word of a short, inline descriptor.
 pub fn descriptor(type_name: u32, bits: u32, number: u32) -> u32
     requires type_name { type_name < 0x100 }
     requires bits { bits < 0x100 }
@@ -20,7 +20,7 @@ pub fn descriptor(type_name: u32, bits: u32, number: u32) -> u32
     type_name + bits * 0x100 + number * 0x1_0000 + 0x1000_0000
 }
 
-/// The zeros after `number` bytes of an item, up to a multiple of four.
+/// Returns the zeros that pad `number` bytes of an item to a multiple of four.
 pub fn zeros(number: usize) -> &'static [u8]
     ensures { result.now ≡ zeros number }
 {

@@ -9,32 +9,32 @@ use crate::spaced::push_spaced;
 use codes::{MACH_NOTIFY_DEAD_NAME, MACH_NOTIFY_NO_SENDERS, MACH_NOTIFY_PORT_DESTROYED};
 use std::alloc::{AllocError, Global};
 
-/// How a number of a call or of a reply is written.
+/// The written form of a number of a call or a reply.
 #[derive(Clone, Copy)]
 pub enum Kind {
     /// A name or a type: its hexadecimal digits after `0x`.
     Hexadecimal,
     /// A count.
     Decimal,
-    /// A change of a count, in two's complement.
+    /// A change of a count, signed (in two's complement).
     Signed,
-    /// A right's number, by its word.
+    /// A right, by its word.
     Right,
-    /// A disposition's number, by its word.
+    /// A disposition, by its word.
     Disposition,
-    /// The number of a notification's variant, by its word.
+    /// The variant of a notification, by its word.
     Notification,
-    /// The number of the type of an item of words, by its word.
+    /// The type of an item of words, by its word.
     Element,
-    /// No number: it is read as 0 and takes no word.
+    /// No number. It is read as 0 and has no word.
     Absent,
 }
 
-/// Each number that a word stands for, of any kind.
+/// All numbers that have words, of any kind.
 const ALL_NAMED: [u32; 14] = [0, 1, 2, 3, 4, 16, 17, 18, 19, 20, 21, 69, 70, 72];
 
 impl Kind {
-    /// The word that stands for a number.
+    /// Returns the word of a number, if it has one.
     fn name_of(self, number: u32) -> Option<&'static [u8]>
         ensures { option_copied result ≡ name_of self number }
     {
@@ -47,7 +47,7 @@ impl Kind {
         }
     }
 
-    /// Whether a word stands for a number.
+    /// Returns true if this is the word of the number.
     fn is_name(self, number: u32, word: &[u8]) -> bool
         ensures { result ≡ is_name self word.now number }
     {
@@ -57,7 +57,7 @@ impl Kind {
         }
     }
 
-    /// The number that a word stands for.
+    /// Returns the number with this word.
     fn number_named(self, word: &[u8]) -> Option<u32>
         ensures { result ≡ find (λ number. is_name self word.now number) all_named }
     {
@@ -67,7 +67,7 @@ impl Kind {
             .find(|number| self.is_name(*number, word))
     }
 
-    /// The number that a word stands for or writes out.
+    /// Returns the number with this word, or the number that its digits give.
     #[tactic(auto, unfolding(crate::specs::Kinds::read_word))]
     pub fn read_word(self, word: &[u8]) -> Option<u32>
         ensures { result ≡ read_word self word.now }
@@ -79,7 +79,7 @@ impl Kind {
         }
     }
 
-    /// A number that no word stands for.
+    /// Returns the digits of a number that has no word.
     fn number_text(self, alloc: Global, number: u32) -> Result<String, AllocError>
         ensures { IfOk result (λ text. string_bytes text ≡ number_text self number) }
     {
@@ -157,7 +157,7 @@ fn signed_text(alloc: Global, number: u32) -> Result<String, AllocError>
     format!(in alloc; "-{below}")
 }
 
-/// Adds a number as a word, with a space in front. If an allocation fails, some of it may have been added.
+/// Appends a number as a word, after a space. If an allocation fails, part of it may have been appended.
 #[tactic(auto, unfolding(crate::specs::Kinds::value_word))]
 pub fn push_value(line: &mut Vec<u8>, kind: Kind, number: u32) -> Result<(), AllocError>
     ensures { OnOk result (line.new.items ≡ line.old.items ++ spaced (value_word kind number ∷ [])) }

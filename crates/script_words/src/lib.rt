@@ -1,4 +1,4 @@
-//! The words of lines of scripts, one by one, as they are written and as they are read.
+//! The words in lines of scripts: written and read one by one.
 #![tactic(auto)]
 
 mod code;

@@ -1,7 +1,7 @@
 ghost use Rattle.std.specs.Prelude.{◌≡◌, ◌≤◌};
 ghost use Rattle.script_words.specs.Numbers.{natural, number_from, with_digit, number_of_word};
 
-/// The number that digits write, if there are any and it fits four bytes.
+/// Returns the number with these digits, or `None` if there are none or it doesn't fit four bytes.
 fn natural(radix: u32, digits: &[u8]) -> Option<u32>
     requires low { 2 ≤ radix }
     requires high { radix ≤ 36 }
@@ -13,7 +13,7 @@ fn natural(radix: u32, digits: &[u8]) -> Option<u32>
     number_from(radix, digits)
 }
 
-/// A number with one more digit.
+/// Returns a number with one more digit.
 fn with_digit(radix: u32, number: u32, byte: u8) -> Option<u32>
     requires low { 2 ≤ radix }
     requires high { radix ≤ 36 }
@@ -35,8 +35,8 @@ fn number_from(radix: u32, digits: &[u8]) -> Option<u32>
     Some(number)
 }
 
-/// The number that a word writes: hexadecimal digits after `0x`, or decimal ones, which may have a `-` in front and are
-/// then in two's complement.
+/// Returns the number that a word gives: hexadecimal digits after `0x`, or decimal digits, possibly after a `-` (then
+/// in two's complement).
 pub(crate) fn number_of_word(word: &[u8]) -> Option<u32>
     ensures { result ≡ number_of_word word.now }
 {

@@ -2,7 +2,7 @@ ghost use Rattle.std.specs.Prelude.{◌≡◌, codes};
 
 use codes::MessageOptions;
 
-/// The word of a send.
+/// Returns the word of a send.
 #[tactic(auto, unfolding(bitflags::specs::Sets::next_name))]
 pub(crate) fn send_word() -> &'static [u8]
     ensures { result.now ≡ codes "send" }
@@ -10,7 +10,7 @@ pub(crate) fn send_word() -> &'static [u8]
     MessageOptions::SEND.first_name().as_bytes()
 }
 
-/// The word of a receive.
+/// Returns the word of a receive.
 #[tactic(auto, unfolding(bitflags::specs::Sets::next_name))]
 pub(crate) fn receive_word() -> &'static [u8]
     ensures { result.now ≡ codes "receive" }
@@ -18,7 +18,7 @@ pub(crate) fn receive_word() -> &'static [u8]
     MessageOptions::RECEIVE.first_name().as_bytes()
 }
 
-/// The word of a receive whose message stays queued if it is too large.
+/// Returns the word of a receive that leaves a message in the queue if it is too large.
 #[tactic(auto, unfolding(bitflags::specs::Sets::next_name))]
 pub fn large_word() -> &'static [u8]
     ensures { result.now ≡ codes "large" }

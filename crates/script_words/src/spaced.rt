@@ -4,14 +4,14 @@ ghost use Rattle.script_words.specs.Spaced.{is_space, is_word_byte, words_of, wo
 
 use std::alloc::AllocError;
 
-/// How many bytes in front are spaces.
+/// Returns the number of spaces at the front.
 fn count_spaces(text: &[u8]) -> usize
     ensures { result ≡ prefix_len is_space text.now }
 {
     text.iter().take_while(|byte| **byte <= b' ').count()
 }
 
-/// How many bytes in front belong to a word.
+/// Returns the length of the word at the front in bytes.
 fn count_word_bytes(text: &[u8]) -> usize
     ensures { result ≡ prefix_len is_word_byte text.now }
 {
@@ -20,7 +20,7 @@ fn count_word_bytes(text: &[u8]) -> usize
         .count()
 }
 
-/// The first word of a text, and what stands after it. There is none in front of a `#` or the end.
+/// Splits off the first word of a text. There is none before a `#` or the end.
 pub fn take_word(text: &[u8]) -> Option<(&[u8], &[u8])>
     ensures { MatchOption result (words_of text.now ≡ []) (λ r. words_of text.now ≡ r.0.now ∷ words_of r.1.now) }
 {
@@ -33,7 +33,7 @@ pub fn take_word(text: &[u8]) -> Option<(&[u8], &[u8])>
     Some(text.split_at(count))
 }
 
-/// Adds a word, with a space in front. If an allocation fails, the space may have been added.
+/// Appends a word after a space. If an allocation fails, the space may have been appended.
 #[tactic(auto, using(crate::proofs::WordsOf::spaced_one))]
 pub fn push_spaced(line: &mut Vec<u8>, word: &[u8]) -> Result<(), AllocError>
     ensures { OnOk result (line.new.items ≡ line.old.items ++ spaced (word.now ∷ [])) }
@@ -42,7 +42,7 @@ pub fn push_spaced(line: &mut Vec<u8>, word: &[u8]) -> Result<(), AllocError>
     line.extend_from_slice(word)
 }
 
-/// How many words a text has.
+/// Returns the number of words in a text.
 pub fn count_words(text: &[u8]) -> usize
     ensures { result ≡ length (words_of text.now) }
 {
@@ -55,7 +55,7 @@ pub fn count_words(text: &[u8]) -> usize
     count
 }
 
-/// How many bytes the first word has, with the spaces in front of it.
+/// Returns the length in bytes of the first word and the spaces before it.
 fn word_end(text: &[u8]) -> usize
     ensures end { result ≡ word_end text.now }
     ensures within { result ≤ length text.now }
@@ -65,7 +65,7 @@ fn word_end(text: &[u8]) -> usize
     spaces + count_word_bytes(beyond)
 }
 
-/// How many bytes of a line come before what follows the first `words` words, including its spaces.
+/// Returns the offset in bytes of what follows the first `words` words of a line and the spaces after them.
 pub fn column_of(line: &[u8], words: usize) -> usize
     ensures { result ≡ column_of words line.now }
 {

@@ -4,7 +4,7 @@ ghost use Rattle.script_words.specs.Verbs.{verb_word, all_verbs};
 
 use crate::option::{receive_word, send_word};
 
-/// What a line asks for, by its first word.
+/// The kind of call that a line makes, by its first word.
 #[derive(Clone, Copy)]
 pub enum Verb {
     Attach,
@@ -59,7 +59,7 @@ const ALL_VERBS: [Verb; 23] = [
 ];
 
 impl Verb {
-    /// The word.
+    /// Returns the verb's word.
     pub fn word(self) -> &'static [u8]
         ensures { result.now ≡ verb_word self }
     {
@@ -90,7 +90,7 @@ impl Verb {
         }
     }
 
-    /// The verb of a word.
+    /// Returns the verb with this word.
     pub fn of_word(word: &[u8]) -> Option<Verb>
         ensures { result ≡ find (λ verb. bytes_eq (verb_word verb) word.now) all_verbs }
     {

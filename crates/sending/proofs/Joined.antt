@@ -1,4 +1,4 @@
--- The rights of a header and of a body make a message that is ready.
+-- The rights of a header and of a body together are those of a message that is ready.
 use Rattle.std.proofs.Common.{◌≡◌, ℕ, Bool, true, false, ◌&&◌, not, List, [], ◌∷◌, ◌++◌, map, Result, Ok, Err, refl, sym, ◌∙◌, ap, subst, append_assoc, if◌then◌else◌}
 use Rattle.std.specs.List.{list_any}
 use Rattle.codes.specs.declared.kern_return.KernReturn.{KernReturn}
@@ -20,13 +20,13 @@ use Rattle.sending.specs.declared.fault.SendFault.{SendFault}
 use Rattle.sending.specs.declared.header.HeaderRights.{HeaderRights}
 use Rattle.sending.proofs.Steps.{agrees_then, agrees_failed}
 
--- what was taken of a header
+-- the rights that were taken for a header
 abbrev pub HeaderIs : Ipc → List Effect → List Effect → TakenHeader → HeaderRights → Type 0
 HeaderIs new waiting after header found =
     (found ≡ record { kind = header.kind; port = header.port; reply = header.reply }) × (new ≡ header.state)
     × (after ≡ waiting ++ header.notices)
 
--- and of a body
+-- the rights that were taken for a body
 abbrev pub RightsAre : {Y : Type 0} → (Y → List CarriedRight) → Ipc → List Effect → List Effect → TakenRights → Y
     → Type 0
 RightsAre items new waiting after taken rights =
@@ -60,7 +60,7 @@ sent_one message = Ok message
 
 module _ (space : ℕ) (parts : UsedParts) (items : List Item) (found : HeaderRights) (mid new : Ipc)
     (waiting between after : List Effect) where
-  -- the message that is ready, once this was taken
+  -- the message that is ready after these rights were taken
   ready_is : (header : TakenHeader) (taken : TakenRights) (rights : List CarriedRight)
       → HeaderIs mid waiting between header found → rights ≡ taken.rights → new ≡ taken.state
       → ready_message parts items header taken

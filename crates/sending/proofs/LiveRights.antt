@@ -1,4 +1,4 @@
--- A message that is ready carries rights only to live ports.
+-- A message that is ready carries rights to live ports only.
 use Rattle.std.proofs.Common.{◌≡◌, ℕ, Bool, true, false, ◌&&◌, List, [], ◌∷◌, Option, None, Some, Result, Ok, refl, subst, arith}
 use Rattle.std.specs.List.{list_all}
 use Rattle.std.specs.Prelude.{IsSome, IfOk}

@@ -1,4 +1,4 @@
--- Notices that already wait stand before those of rights that are taken.
+-- Pending effects precede the notices of rights that are taken.
 use Rattle.std.proofs.Common.{◌≡◌, ℕ, Bool, true, false, List, [], ◌∷◌, ◌++◌, Option, None, Some, option_map, if◌then◌else◌, refl, ◌∙◌, ap, append_assoc}
 use Rattle.ipc_model.specs.effects.Effects.{Effect}
 use Rattle.ipc_model.specs.messages.Items.{Item, names_of_item}

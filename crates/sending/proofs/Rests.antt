@@ -1,4 +1,4 @@
--- Rights that are taken one after another, with one refused, and with effects that wait before theirs.
+-- Rights that are taken one after another: refusals, and effects that were pending before.
 use Rattle.std.proofs.Common.{◌≡◌, ℕ, ◌<◌, List, [], ◌∷◌, ◌++◌, length, drop, map, Option, None, Some, option_map, Result, Ok, Err, sym, ◌∙◌, ap, subst, append-nil, get_or, suc}
 use Rattle.std.proofs.Math.Seq.{drop-cons}
 use Rattle.codes.specs.declared.kern_return.KernReturn.{KernReturn}
@@ -26,14 +26,14 @@ want_is (Ok x) Is fault want = want
 want_is (Err code) Is (Refused other) want = absurd want
 want_is (Err code) Is NoMemory want = tt
 
--- what fails first fails the whole
+-- if the first part fails, the whole fails
 failed_first : {X Y : Type 0} (code : KernReturn) (o : Option TakenRights) (next : TakenRights → Option TakenRights)
     (Is : TakenRights → X → Type 0) (Then : TakenRights → Y → Type 0) (fault : SendFault)
     → Agrees (or_refused code o) Is (Err fault) → Agrees (or_refused code (go_on next o)) Then (Err fault)
 failed_first code None next Is Then fault is = is
 failed_first code (Some taken) next Is Then fault is = want_is (or_refused code (next taken)) Then fault is
 
--- an item of those that are left is refused
+-- one of the remaining items is refused
 pub failed_item : {X Y : Type 0} (code : KernReturn) (space : ℕ) (items : List declared.Item) (at : ℕ)
     (item : declared.Item) (taken : TakenRights) (whole : Option TakenRights) (Is : TakenRights → X → Type 0)
     (Then : TakenRights → Y → Type 0) (fault : SendFault)
@@ -50,7 +50,7 @@ failed_item code space items at item taken whole Is Then fault left less is fail
     (failed_first code (take_item space (item_value item) (disposition_of item.type_name) taken)
     (take_items space (map item_value (drop (suc at) items))) Is Then fault failed)
 
--- Effects that wait stand before the new ones.
+-- Pending effects precede the new ones.
 
 mapped_failed : {X Y : Type 0} (code : KernReturn) (o : Option TakenRights) (change : TakenRights → TakenRights)
     (Is : TakenRights → X → Type 0) (Then : TakenRights → Y → Type 0) (fault : SendFault)

@@ -1,4 +1,4 @@
--- What copy in took is what the machine takes.
+-- Copy in takes what the machine takes.
 use Rattle.std.proofs.Common.{◌≡◌, List, ◌++◌, Option, None, Some, Result, Ok, Err, refl}
 use Rattle.codes.specs.declared.kern_return.KernReturn.{KernReturn}
 use Rattle.ipc_model.specs.calls.Tests.{or_refused}

@@ -1,4 +1,4 @@
--- From a task's bytes to a message that is ready.
+-- The path from a task's bytes to a message that is ready.
 use Rattle.std.proofs.Common.{◌≡◌, ℕ, Bool, true, false, List, [], ◌∷◌, ◌++◌, length, Result, Ok, Err, sym, ap, subst, ◌∙◌, if◌then◌else◌}
 use Rattle.std.specs.Prelude.{Option, IfOk, IfErr}
 use Rattle.codes.specs.declared.kern_return.KernReturn.{KernReturn}
@@ -17,7 +17,7 @@ use Rattle.sending.proofs.Rests.{want_is}
 use Rattle.sending.proofs.Steps.{agrees_then, agrees_failed, agrees_same, reported}
 use Rattle.sending.specs.declared.fault.SendFault.{SendFault}
 
--- the tests passed
+-- all tests passed
 passed : {Y Z W : Type 0} (tests : Tests) (parts : UsedParts) (by : Y → UsedParts) (next : Result Z KernReturn)
     (Then : Z → W → Type 0) (found : Y) (result : Result W SendFault)
     → Agrees (unless_failing tests (Ok parts)) (λ p y. p ≡ by y) (Ok found)
@@ -31,7 +31,7 @@ passed {Y} {Z} {W} (test ∷ tests) parts by next Then found result is rest =
       | false ↦ λ (later : _). passed tests parts by next Then found result later rest
     ] is
 
--- one of them failed
+-- a test failed
 failed : {Y Z W : Type 0} (tests : Tests) (parts : UsedParts) (by : Y → UsedParts) (next : Result Z KernReturn)
     (Then : Z → W → Type 0) (fault : SendFault)
     → Agrees (unless_failing tests (Ok parts)) (λ p (y : Y). p ≡ by y) (Err fault)
@@ -64,7 +64,7 @@ ready_failed state space bytes by Then fault is =
     failed (tests_of_size (length bytes)) (used_parts bytes) by
     (of_dispositions state space (used_parts bytes)) Then fault is
 
--- what was found is what is ready, if no effect waited
+-- without pending effects, the message that was found is the one that is ready
 pub ready_found : (r : Result Ready KernReturn) (new : Ipc) (waiting after : List Effect) (found : Message × ℕ)
     → waiting ≡ [] → Agrees r (ReadyIs new waiting after) (Ok found)
     → r ≡ Ok (record { message = found.0; port = found.1; state = new; notices = after })
@@ -76,7 +76,7 @@ ready_found (Ok ready) new waiting after found none is = λ i. Ok (record {
   notices = sym (is.3 ∙ ap (λ (l : List Effect). l ++ ready.notices) none) i;
 })
 
--- The same for whatever came of it.
+-- The same for a message that was found and for a fault.
 pub all_found : (r : Result Ready KernReturn) (new : Ipc) (waiting after : List Effect)
     (result : Result (Message × ℕ) SendFault) → waiting ≡ [] → Agrees r (ReadyIs new waiting after) result
     → IfOk result (λ found. r ≡ Ok (record { message = found.0; port = found.1; state = new; notices = after }))

@@ -1,4 +1,4 @@
--- What a send leaves.
+-- The effect of a send.
 use Rattle.std.specs.Prelude.{◌≡◌, ℕ, List, ◌++◌, Option, Result, Ok, Err}
 use Rattle.codes.specs.declared.kern_return.KernReturn.{KernReturn}
 use Rattle.codes.specs.declared.kern_return.KernReturn.TheVariants.{SendInvalidHeader}
@@ -11,13 +11,12 @@ use Rattle.ipc_model.specs.messages.Sending.{Ready, header_disposition, reply_di
 use Rattle.ipc_model.specs.rights.Dispositions.{Disposition}
 use Rattle.ipc_model.specs.state.Ipc.{Ipc}
 
--- a message that is ready and its port were found, and this is the state; its notices wait after those that already
--- waited
+-- the message, its port and the new state are those of `ready`, whose notices are appended to the pending effects
 abbrev pub ReadyIs : Ipc → List Effect → List Effect → Ready → Message × ℕ → Type 0
 ReadyIs new waiting after ready found =
     (found.0 ≡ ready.message) × (found.1 ≡ ready.port) × (new ≡ ready.state) × (after ≡ waiting ++ ready.notices)
 
--- what becomes of a message whose size is one that messages may have
+-- the message made ready, or the refusal, for a message of a valid size
 abbrev pub of_dispositions : Ipc → ℕ → UsedParts → Result Ready KernReturn
 of_dispositions state space parts =
     and_then (or_refused SendInvalidHeader (header_disposition parts.remote_disposition))

@@ -1,4 +1,4 @@
--- What was taken so far.
+-- The rights taken so far.
 use Rattle.std.specs.Prelude.{List}
 use Rattle.ipc_model.specs.declared.message.CarriedRight.{CarriedRight}
 use Rattle.ipc_model.specs.effects.Effects.{Effect}

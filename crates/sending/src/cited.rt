@@ -1,4 +1,4 @@
-//! The names that a message cites: the effect of a send depends on what these stand for.
+//! The names that a message contains. The effect of a send depends on their entries.
 ghost use Rattle.std.specs.Prelude.{◌≡◌, ◌++◌, flat_map, map, IfOk, OnOk};
 ghost use Rattle.ipc_model.specs.messages.Items.{names_of_item};
 ghost use Rattle.ipc_model.specs.messages.Messages.{used_parts};
@@ -10,10 +10,10 @@ use crate::reading::{read_items, read_message};
 use std::alloc::{AllocError, Global};
 use type_desc::Item;
 
-/// The names that a message cites: its destination's, its reply port's and those in its body, in this order.
+/// Returns the names that a message contains: the destination's, the reply port's and those in its body, in this order.
 ///
-/// `Refused`: because of its size or the items of its body, `send` refuses it whatever the names stand for. `NoMemory`:
-/// an allocation failed.
+/// `Refused`: `send` refuses the message because of its size or the items of its body, whatever the names denote.
+/// `NoMemory`: an allocation failed.
 pub fn cited_names(alloc: Global, message: &[u8]) -> Result<Vec<u32>, SendFault>
     ensures { IfOk result (λ names. names.items ≡ names_cited (used_parts message.now)) }
 {
@@ -25,7 +25,7 @@ pub fn cited_names(alloc: Global, message: &[u8]) -> Result<Vec<u32>, SendFault>
     Ok(names)
 }
 
-/// Adds the names in items.
+/// Appends the names in items.
 fn push_names(items: &[Item<'_>], names: &mut Vec<u32>) -> Result<(), AllocError>
     ensures { OnOk result (names.new.items ≡ names.old.items ++ flat_map names_of_item (map item_value items.now)) }
 {
@@ -35,7 +35,7 @@ fn push_names(items: &[Item<'_>], names: &mut Vec<u32>) -> Result<(), AllocError
     Ok(())
 }
 
-/// Adds the names in an item.
+/// Appends the names in an item.
 fn push_names_of(item: &Item<'_>, names: &mut Vec<u32>) -> Result<(), AllocError>
     ensures { OnOk result (names.new.items ≡ names.old.items ++ names_of_item (item_value item.now)) }
 {

@@ -1,4 +1,4 @@
-//! What becomes of a message that is ready: it is queued, or destroyed if it would travel in a cycle.
+//! Delivers a message that is ready: queues it, or destroys it if it would travel in a cycle.
 ghost use Rattle.std.specs.Prelude.{◌≡◌, ◌∷◌, ◌++◌, Bool, true, false, None, Some, OnOk};
 ghost use Rattle.std.specs.List.{list_any};
 ghost use Rattle.ipc_model.specs.effects.Effects.{release, releases_of};
@@ -12,7 +12,7 @@ use rights::IpcState;
 use std::alloc::AllocError;
 use transit::would_circle;
 
-/// Whether the receive right of a port, if there is one, would travel in a cycle in this queue.
+/// Returns true if a port's receive right would travel in a cycle in this queue. False if there is no port.
 fn would_circle_with(state: &IpcState, queue: u64, port: PortInMessage) -> bool
     ensures { result ≡ elim (live_port port) as (λ _. Bool)
         [ None ↦ false | Some serial ↦ is_circular state.now.current serial queue ] }
@@ -23,7 +23,7 @@ fn would_circle_with(state: &IpcState, queue: u64, port: PortInMessage) -> bool
     }
 }
 
-/// Whether a right of a body is a receive right that would travel to its own queue.
+/// Returns true if a right of a body is a receive right that would travel to its own queue.
 fn goes_in_circle(state: &IpcState, queue: u64, right: CarriedRight) -> bool
     ensures { result ≡ goes_in_circle state.now.current queue right }
 {
@@ -33,7 +33,7 @@ fn goes_in_circle(state: &IpcState, queue: u64, right: CarriedRight) -> bool
     }
 }
 
-/// Whether a message with these rights would carry a receive right in a cycle.
+/// Returns true if a message with these rights would carry a receive right in a cycle.
 fn any_goes_in_circle(state: &IpcState, queue: u64, rights: &[CarriedRight]) -> bool
     ensures { result ≡ list_any (goes_in_circle state.now.current queue) rights.now }
 {
@@ -42,7 +42,7 @@ fn any_goes_in_circle(state: &IpcState, queue: u64, rights: &[CarriedRight]) -> 
         .any(|right| goes_in_circle(state, queue, *right))
 }
 
-/// Adds the releases of a message's destination, its reply right and the rights of its body, in this order.
+/// Appends the releases of a message's destination, its reply right and the rights of its body, in this order.
 fn destroy(queue: u64, message: &Message, effects: &mut Effects) -> Result<(), AllocError>
     ensures { OnOk result (effects.new ≡ effects.old
         ++ (release message.now.destination queue ∷ releases_of message.now)) }
@@ -52,8 +52,8 @@ fn destroy(queue: u64, message: &Message, effects: &mut Effects) -> Result<(), A
     effects.release_message(message)
 }
 
-/// Puts a message at the end of a queue; if it would carry a receive right in a cycle, it is destroyed. Its rights are
-/// to live ports. If an allocation fails, the changes must be rolled back.
+/// Appends a message to a queue, or destroys it if it would carry a receive right in a cycle. Its rights are to live
+/// ports. If an allocation fails, the changes must be rolled back.
 #[tactic(auto, unfolding(ipc_model::specs::messages::Sending::sent))]
 pub(crate) fn deliver(
     state: &mut IpcState,

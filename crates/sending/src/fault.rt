@@ -1,10 +1,10 @@
 use codes::KernReturn;
 use std::alloc::AllocError;
 
-/// Why a message wasn't sent.
+/// The reason why a message wasn't sent.
 #[derive(Clone, Copy, Debug, PartialEq, Eq)]
 pub enum SendFault {
-    /// A test failed, and the send is refused with this code.
+    /// A test failed; the send is refused with this code.
     Refused(KernReturn),
     /// Out of memory.
     NoMemory,

@@ -7,7 +7,7 @@ ghost use Rattle.ipc_model.specs.state.Placed.{same_kind};
 use ipc_model::RightKind;
 use rights::IpcState;
 
-/// Whether a port's queue holds as many messages as its limit, or more.
+/// Returns true if a port's queue is at its limit or above it.
 fn is_full(state: &IpcState, port: u64) -> bool
     ensures { result ≡ is_full state.now.current port }
 {
@@ -17,8 +17,7 @@ fn is_full(state: &IpcState, port: u64) -> bool
     numbers.limit <= state.message_count(port)
 }
 
-/// Whether a queue's limit applies to a message that is sent by this right and stops it: one by a send-once right is
-/// never stopped.
+/// Returns true if a full queue refuses a message that is sent by this right. A send-once right is never refused.
 pub(crate) fn is_stopped(state: &IpcState, port: u64, destination: RightKind) -> bool
     ensures { result ≡ (is_full state.now.current port && not (same_kind destination kind.SendOnce)) }
 {

@@ -1,4 +1,4 @@
-//! The rights of a message's header: the destination, and the right for the reply.
+//! The rights of a message's header: the destination and the reply right.
 ghost use Rattle.std.specs.Prelude.{◌≡◌, ◌++◌, Some, true, false};
 ghost use Rattle.ipc_model.specs.messages.Sending as sending;
 ghost use Rattle.ipc_model.specs.state.Ipc.{is_null_or_dead};
@@ -11,7 +11,7 @@ use effects::Effects;
 use ipc_model::{CarriedRight, RightKind};
 use rights::IpcState;
 
-/// The names of the rights in a message's header, and how they are handed over.
+/// The names and dispositions of the rights in a message's header.
 #[derive(Clone, Copy)]
 pub(crate) struct Named {
     pub(crate) remote: u32,
@@ -21,7 +21,7 @@ pub(crate) struct Named {
     pub(crate) reply: Option<Disposition>,
 }
 
-/// The rights that were taken for a header: the kind of the destination right and its port, and the reply right.
+/// The rights that were taken for a header: kind and port of the destination right, and the reply right.
 #[derive(Clone, Copy)]
 pub(crate) struct HeaderRights {
     pub(crate) kind: RightKind,
@@ -29,7 +29,7 @@ pub(crate) struct HeaderRights {
     pub(crate) reply: Option<CarriedRight>,
 }
 
-/// Takes the destination right, which has to be one to a live port.
+/// Takes the destination right, which must be to a live port.
 fn take_destination(
     state: &mut IpcState,
     space: u32,
@@ -55,7 +55,7 @@ fn take_destination(
     Ok((right.kind, port))
 }
 
-/// Takes the right for the reply, if the header names one; `MACH_PORT_NULL` and `MACH_PORT_DEAD` pass through.
+/// Takes the reply right, if the header names one. `MACH_PORT_NULL` and `MACH_PORT_DEAD` are passed on.
 fn take_reply(
     state: &mut IpcState,
     space: u32,
@@ -78,7 +78,7 @@ fn take_reply(
     take_named_reply(state, space, name, disposition, effects)
 }
 
-/// The same for a reply that is named.
+/// Takes the reply right that the header names.
 fn take_named_reply(
     state: &mut IpcState,
     space: u32,
@@ -103,7 +103,7 @@ fn take_named_reply(
     Ok(Some(right))
 }
 
-/// Whether a disposition moves a right, and so consumes something of its name.
+/// Returns true if a disposition moves a right, and so consumes a reference of its name.
 fn consumes(disposition: Disposition) -> bool
     ensures { result ≡ sending.consumes disposition }
 {
@@ -113,7 +113,7 @@ fn consumes(disposition: Disposition) -> bool
     }
 }
 
-/// Whether the reply right is taken first: the destination moves a right and the reply doesn't.
+/// Returns true if the reply right is taken first: the destination moves a right and the reply doesn't.
 fn reply_goes_first(destination: Disposition, reply: Option<Disposition>) -> bool
     ensures { result ≡ sending.reply_goes_first destination reply }
 {
@@ -123,7 +123,7 @@ fn reply_goes_first(destination: Disposition, reply: Option<Disposition>) -> boo
     }
 }
 
-/// Takes the rights of a header: what consumes nothing first, and otherwise the destination first.
+/// Takes the rights of a header: the destination first, unless it moves a right and the reply doesn't.
 pub(crate) fn take_header(
     state: &mut IpcState,
     space: u32,

@@ -18,7 +18,7 @@ use rights::IpcState;
 use std::alloc::Global;
 use type_desc::Item;
 
-/// Takes the right of one more name; `MACH_PORT_NULL` and `MACH_PORT_DEAD` pass through.
+/// Takes the right of one more name. `MACH_PORT_NULL` and `MACH_PORT_DEAD` are passed on.
 fn take_one(
     state: &mut IpcState,
     space: u32,
@@ -41,7 +41,7 @@ fn take_one(
     take_named(state, space, name, disposition, rights, effects)
 }
 
-/// The same for a name that may be in use.
+/// Takes the right of a name that is neither `MACH_PORT_NULL` nor `MACH_PORT_DEAD`.
 fn take_named(
     state: &mut IpcState,
     space: u32,
@@ -110,7 +110,7 @@ fn take_item(
     }
 }
 
-/// Takes the rights of items, from the left, after those that were taken.
+/// Takes the rights of items, from the left, and appends them.
 fn take_items(
     state: &mut IpcState,
     space: u32,
@@ -129,7 +129,7 @@ fn take_items(
     Ok(())
 }
 
-/// How many ports items hold, counting `MACH_PORT_NULL` and `MACH_PORT_DEAD`.
+/// Returns the number of ports in items, including `MACH_PORT_NULL` and `MACH_PORT_DEAD`.
 fn count_ports(items: &[Item<'_>]) -> usize {
     let mut count: usize = 0;
     for item in items {
@@ -138,7 +138,7 @@ fn count_ports(items: &[Item<'_>]) -> usize {
     count
 }
 
-/// Takes the rights of all port items of a body, from the left. Room for them is allocated at once.
+/// Takes the rights of all port items of a body, from the left. It allocates room for all of them at once.
 pub(crate) fn take_body(
     alloc: Global,
     state: &mut IpcState,

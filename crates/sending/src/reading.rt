@@ -1,4 +1,4 @@
-//! What is read of a task's bytes before any right is taken.
+//! Decodes a task's message before any right is taken.
 ghost use Rattle.std.specs.Prelude.{◌≡◌, ◌==◌, length, map, Ok};
 ghost use Rattle.ipc_model.specs.calls.Tests.{or_refused, unless_failing};
 ghost use Rattle.ipc_model.specs.messages.Messages.{used_parts};
@@ -13,7 +13,7 @@ use msg_header::{Header, parse};
 use std::alloc::Global;
 use type_desc::{Item, ItemFault, items};
 
-/// The header and the body of a message whose size is one that messages may have.
+/// Splits a message into header and body, if messages may have its size.
 pub(crate) fn read_message(message: &[u8]) -> Result<(Header, &[u8]), SendFault>
     ensures { Agrees (unless_failing (sending.tests_of_size (length message.now)) (Ok (used_parts message.now)))
         (λ parts found. parts ≡ parts_by found.0 found.1.now) result }
@@ -31,7 +31,7 @@ pub(crate) fn read_message(message: &[u8]) -> Result<(Header, &[u8]), SendFault>
     Ok((header, body))
 }
 
-/// How the destination right is handed over: by a disposition that names a send or send-once right.
+/// Returns the disposition of the destination right, which must give a send or send-once right.
 pub(crate) fn destination_disposition(number: u8) -> Result<Disposition, SendFault>
     ensures { Agrees (or_refused KernReturn.SendInvalidHeader (sending.header_disposition number))
         (λ disposition found. found ≡ disposition) result }
@@ -44,7 +44,7 @@ pub(crate) fn destination_disposition(number: u8) -> Result<Disposition, SendFau
     }
 }
 
-/// How the reply right is handed over; `None` if there is no reply.
+/// Returns the disposition of the reply right, or `None` if there is no reply right.
 pub(crate) fn reply_disposition(number: u8, name: u32) -> Result<Option<Disposition>, SendFault>
     ensures { Agrees (sending.reply_disposition number name) (λ disposition found. found ≡ disposition) result }
 {
@@ -55,7 +55,7 @@ pub(crate) fn reply_disposition(number: u8, name: u32) -> Result<Option<Disposit
     Ok(Some(disposition))
 }
 
-/// The items of a body, if it is looked at: without `MACH_MSGH_BITS_COMPLEX` it isn't.
+/// Returns the items of a body. Without `MACH_MSGH_BITS_COMPLEX` the body isn't decoded.
 pub(crate) fn read_items(
     alloc: Global,
     complex: bool,

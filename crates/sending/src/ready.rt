@@ -1,4 +1,4 @@
-//! A task's bytes turned into a message that is ready to be queued.
+//! Turns a task's bytes into a message that is ready to be queued.
 ghost use Rattle.std.specs.Prelude.{◌≡◌, ◌∷◌, ◌&&◌, [], map, not, Ok, IfOk, IfErr, if◌then◌else◌};
 ghost use Rattle.std.specs.List.{list_any};
 ghost use Rattle.ipc_model.specs.calls.Tests.{and_then, or_refused, unless_failing};
@@ -26,7 +26,7 @@ use rights::IpcState;
 use std::alloc::{AllocError, Global};
 use type_desc::{Item, has_too_many_ports, push_stored_items};
 
-/// What was read of a message: its header, the items of its body if that was looked at, and the body.
+/// A decoded message: its header, the items of its body if they were decoded, and the body.
 #[derive(Clone, Copy)]
 pub(crate) struct Read<'a> {
     pub(crate) header: Header,
@@ -34,7 +34,7 @@ pub(crate) struct Read<'a> {
     pub(crate) body: &'a [u8],
 }
 
-/// A body as a queued message has it: if items were looked at, types of ports as received and 0 in their places.
+/// Returns a body in its queued form: if its items were decoded, ports have their types as received and the value 0.
 fn kept_body(
     alloc: Global,
     complex: bool,
@@ -53,7 +53,7 @@ fn kept_body(
     Ok(kept)
 }
 
-/// Whether an item holds ports.
+/// Returns true if some item holds ports.
 fn has_ports(items: &[Item<'_>]) -> bool
     ensures { result ≡ list_any is_port_item (map item_value items.now) }
 {
@@ -65,7 +65,7 @@ fn has_ports(items: &[Item<'_>]) -> bool
     false
 }
 
-/// Makes a message of rights that were taken, unless its queue's limit stops it.
+/// Builds a message from the rights that were taken, unless the queue is full.
 fn message_of(
     alloc: Global,
     state: &IpcState,
@@ -101,7 +101,7 @@ fn message_of(
     })
 }
 
-/// Takes the rights of a header and of a body's items, and makes a message of them.
+/// Takes the rights of a header and of a body's items, and builds a message from them.
 fn take_all(
     alloc: Global,
     state: &mut IpcState,
@@ -128,7 +128,7 @@ fn take_all(
     Ok((message, taken.port))
 }
 
-/// The message of what was read, unless it holds too many ports or has no destination.
+/// Returns the message of a header, items and a body, unless it holds too many ports or has no destination.
 fn ready_of_items(
     alloc: Global,
     state: &mut IpcState,
@@ -158,7 +158,7 @@ fn ready_of_items(
     take_all(alloc, state, space, read, named, effects)
 }
 
-/// The message of a header and a body.
+/// Returns the message of a header and a body.
 fn ready_by_header(
     alloc: Global,
     state: &mut IpcState,
@@ -182,8 +182,8 @@ fn ready_by_header(
     ready_of_items(alloc, state, space, read, destination, reply, effects)
 }
 
-/// Turns a task's bytes into a message that is ready to be queued, and its port; or returns the code of the first test
-/// that fails. If it is refused or an allocation fails, the changes must be rolled back.
+/// Turns a task's bytes into a message that is ready to be queued, and returns it with its port, or the code of the
+/// first test that fails. If it is refused or an allocation fails, the changes must be rolled back.
 pub(crate) fn ready(
     alloc: Global,
     state: &mut IpcState,

@@ -13,15 +13,14 @@ use effects::Effects;
 use rights::IpcState;
 use std::alloc::Global;
 
-/// `mach_msg` with `MACH_SEND_MSG`: a task's bytes become a message at the end of its destination's queue, with the
-/// rights that they name; a message that would carry a receive right in a cycle is destroyed. What this sets off goes
-/// to the end of the effects. The space must exist, the state must be one that the kernel keeps, and no effect may
-/// wait.
+/// `mach_msg` with `MACH_SEND_MSG`: appends a task's message to its destination's queue, with the rights that it names.
+/// A message that would carry a receive right in a cycle is destroyed. The effects of the send are appended to the
+/// pending effects. The space must exist, the state must be one that the kernel keeps, and no effects may be pending.
 ///
 /// `Refused`, by the first test that fails: `SendMsgTooSmall` (fewer than 24 bytes, not a multiple of 4, or an item
 /// that is cut off), `SendNoBuffer` (more than 8,192 bytes, or more than 256 ports), `SendInvalidHeader`,
 /// `SendInvalidMemory` and `SendInvalidType` (an item), `SendInvalidDest`, `SendInvalidReply`, `SendInvalidRight` (a
-/// right of the body), `SendTimedOut` (the queue is full). `NoMemory`: out of memory. With either fault the changes
+/// right of the body), `SendTimedOut` (the queue is full). `NoMemory`: out of memory. After either fault the changes
 /// must be rolled back.
 pub fn send(
     alloc: Global,

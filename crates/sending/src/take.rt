@@ -1,4 +1,4 @@
-//! Rights that are taken from names for a message.
+//! Takes rights from names for a message.
 ghost use Rattle.std.specs.Prelude.{◌≡◌, ◌++◌, IfSome, IfNone, true, false, Ok};
 ghost use Rattle.ipc_model.specs.calls.Tests.{or_refused};
 ghost use Rattle.ipc_model.specs.messages.Sending.{live_port, passed};
@@ -13,7 +13,7 @@ use effects::Effects;
 use ipc_model::{CarriedRight, PortInMessage, RightKind};
 use rights::{IpcState, take_right};
 
-/// Copies a right in from a name, or refuses with this code.
+/// Copies a right in from a name. Refused with this code if that fails.
 #[tactic(auto, using(crate::proofs::Taken::taken_gave))]
 pub(crate) fn take(
     state: &mut IpcState,
@@ -34,7 +34,7 @@ pub(crate) fn take(
     }
 }
 
-/// The port of a right that is to be a destination; `MACH_PORT_NULL` and a dead name are refused.
+/// Returns the port of a destination right. `MACH_PORT_NULL` and a dead name are refused.
 pub(crate) fn live_port(port: PortInMessage) -> Result<u64, SendFault>
     ensures { Agrees (or_refused KernReturn.SendInvalidDest (live_port port)) (λ serial found. found ≡ serial) result }
 {
@@ -46,7 +46,7 @@ pub(crate) fn live_port(port: PortInMessage) -> Result<u64, SendFault>
     }
 }
 
-/// What stands in a message for a name that stands for nothing: `MACH_PORT_NULL` and `MACH_PORT_DEAD` pass through.
+/// Returns the port of `MACH_PORT_NULL` or `MACH_PORT_DEAD` in a message, or `None` for another name.
 pub(crate) fn passed(name: u32) -> Option<PortInMessage>
     ensures passed { IfSome result (λ port. (is_null_or_dead name ≡ true) × (port ≡ passed name)) }
     ensures none { IfNone result (is_null_or_dead name ≡ false) }
@@ -58,14 +58,14 @@ pub(crate) fn passed(name: u32) -> Option<PortInMessage>
     }
 }
 
-/// Whether a name is `MACH_PORT_NULL` or `MACH_PORT_DEAD`.
+/// Returns true if a name is `MACH_PORT_NULL` or `MACH_PORT_DEAD`.
 pub(crate) fn is_null_or_dead(name: u32) -> bool
     ensures { result ≡ is_null_or_dead name }
 {
     name == MACH_PORT_NULL || name == MACH_PORT_DEAD
 }
 
-/// The kind of right that arrives by a disposition.
+/// Returns the kind of right that a disposition gives the receiver.
 pub(crate) fn received_kind(disposition: Disposition) -> RightKind
     ensures { result ≡ received_kind disposition }
 {

@@ -40,7 +40,7 @@ pub not_chosen : (b : Bool) (x y : ℕ) → b ≡ false → y ≡ (if b then x e
 not_chosen true x y is = absurd cc
 not_chosen false x y is = refl
 
--- a reply to a call can be written after it
+-- a reply to a call can be written after the call
 plain_own : (answer : PlainReply) → plain.IsWellFormed answer → IsPlainOwn answer
 plain_own (plain_reply.Refused number code) well = well.0
 plain_own (plain_reply.Done number) well = well
@@ -59,7 +59,7 @@ has_line (Ok (Some answer)) number content found =
 has_line (Ok None) number content found = tt
 has_line (Err e) number content found = tt
 
--- the end of known bytes is where they are all taken
+-- the end of known bytes is reached when all were consumed
 pub takes_all : (old new : Option (List ℕ)) (bytes : List ℕ) → IsAtEnd old → Consumes old new bytes → TakesAll old new
 takes_all None new bytes end taken = tt
 takes_all (Some xs) None bytes end taken = absurd taken

@@ -1,4 +1,4 @@
--- What a line asks for, and the frame that asks a server.
+-- The requests of lines, and the frames that are sent to the server.
 use Rattle.std.specs.Prelude.{ℕ, nat_le, ◌&&◌, Bool, true, false, List, [], ◌++◌, Option, None, Some, Result, Ok, Err}
 use Rattle.calls.specs.Requests.{mach_msg_arguments}
 use Rattle.codes.specs.declared.call_number.TheConstants.{MACH_MSG, NUMBERED}
@@ -28,7 +28,7 @@ abbrev pub unless_alone : Result Call LineFault → Result Asked LineFault → R
 unless_alone (Ok c) other = Ok (asked.Call c)
 unless_alone (Err fault) other = other
 
--- only a call, or else a line of a script, with the expected answer
+-- the request of a line: a call alone, or a line of a script with the expected reply
 abbrev pub asked_read : List ℕ → Result Asked LineFault
 asked_read line = unless_alone (request_read line) (answered_read line)
 
@@ -48,26 +48,26 @@ message_encoding option limit name message = word MACH_MSG ++ mach_msg_arguments
   message = message;
 })
 
--- The content of the frame that asks for a call: a send by MACH_SEND_MSG and MACH_SEND_TIMEOUT, and every timeout 0.
+-- The content of the frame of a call: a send has MACH_SEND_MSG and MACH_SEND_TIMEOUT, and every timeout is 0.
 abbrev pub plain_attempt_text : PlainCall → List ℕ
 plain_attempt_text (call.Send message) = message_encoding 0x11 0 0 message
 plain_attempt_text (call.Receive limit large name waited) =
     message_encoding (receive_options large waited) limit name []
 plain_attempt_text c = call_encoding c
 
--- A call that is numbered stands after its request.
+-- A numbered call follows its request.
 abbrev pub attempt_text : Call → List ℕ
 attempt_text (Plain c) = plain_attempt_text c
 attempt_text (Numbered numbered) =
     word NUMBERED ++ (word numbered.request ++ plain_attempt_text numbered.call)
 attempt_text Unnumberable = word NUMBERED
 
--- the call that a line asks for
+-- the call of a request
 abbrev pub call_of : Asked → Option Call
 call_of asked.Nothing = None
 call_of (asked.Call c) = Some c
 call_of (asked.Exchange x) = Some x.call
 
--- a frame can have content of this many bytes
+-- a frame's content may have this length
 abbrev pub is_content_length : ℕ → Bool
 is_content_length n = nat_le MIN_FRAME_CONTENT n && nat_le n MAX_FRAME_CONTENT

@@ -1,4 +1,4 @@
--- How a run of the shell ends.
+-- The outcome of a run of the shell.
 use Rattle.std.specs.Prelude.{◌≡◌, ◌⊎◌, ℕ, Bool, true, false, List, [], Result, Ok, Err}
 use Rattle.relay.specs.Relaying.{Side}
 use Rattle.relay.specs.declared.end.RelayEnd.{RelayEnd}
@@ -7,14 +7,14 @@ use Rattle.relay.specs.Ending.{line_of as end_line, status_of as end_status}
 use Rattle.shell.specs.Turns.{Stops, TalksAll}
 use Rattle.wire.specs.declared.fault.WireFault.TheVariants.{NoMemory}
 
--- 0: all lines were read, none was wrong, and no answer differed; 1: a line was wrong or an answer differed; where
--- reading ended early, the status of that end
+-- 0: all lines were read, none was wrong, and each reply was the expected one; 1: a line was wrong or a reply differed;
+-- if reading ended early, the status of that end
 abbrev pub status_of : Result Bool RelayEnd → ℕ
 status_of (Ok true) = 0
 status_of (Ok false) = 1
 status_of (Err end) = end_status end
 
--- the line of errors; none where all lines were read
+-- the error message, empty if all lines were read
 abbrev pub line_of : Result Bool RelayEnd → List ℕ
 line_of (Ok well) = []
 line_of (Err end) = end_line end

@@ -1,4 +1,4 @@
--- What is printed for a line.
+-- The text that is printed for a line.
 use Rattle.std.specs.Prelude.{ℕ, Bool, List, [], ◌∷◌, ◌++◌, codes, decimal}
 use Rattle.std.specs.Str.{bytes_eq}
 use Rattle.ipc_model.specs.declared.call.Call.{Call}
@@ -31,7 +31,7 @@ column_encoding column = codes ", column " ++ decimal column
 unfoldable pub expected_text : Expected → List ℕ
 expected_text what = codes ": expected " ++ (expected_words what ++ 10 ∷ [])
 
--- a line can't be read: after this many bytes something else was expected
+-- a line can't be read: at this offset something else was expected
 abbrev pub wrong_line : ℕ → ℕ → Expected → List ℕ
 wrong_line number column what = place_encoding number ++ (column_encoding column ++ expected_text what)
 
@@ -39,18 +39,18 @@ wrong_line number column what = place_encoding number ++ (column_encoding column
 abbrev pub long_line : ℕ → List ℕ
 long_line number = place_encoding number ++ codes ": a message that is too long for a frame\n"
 
--- what came isn't a reply to the line's call
+-- the frame isn't a reply to the line's call
 abbrev pub strange_line : ℕ → List ℕ
 strange_line number = place_encoding number ++ codes ": a reply that isn't one of this call\n"
 
--- the call with its answer: the line of a script
+-- the call with its reply: a line of a script
 unfoldable pub answered_line : Call → Reply → List ℕ
 answered_line c answer = call_line c ++ (reply_line answer ++ 10 ∷ [])
 
 unfoldable pub expected_place : ℕ → List ℕ
 expected_place number = place_encoding number ++ codes ", expected: "
 
--- the answer that the line has, if it differs
+-- the expected reply of the line, if it differs
 abbrev pub difference_line : ℕ → Call → Reply → List ℕ
 difference_line number c wanted = expected_place number ++ answered_line c wanted
 

@@ -5,20 +5,20 @@ use ipc_model::Call;
 use script::{Exchange, LineFault, read_line, read_request_line};
 use std::alloc::Global;
 
-/// What a line asks for.
+/// The request of a line.
 #[derive(Drop)]
 pub enum Asked {
     /// Nothing: it is blank, or a comment.
     Nothing,
-    /// A call, whatever its answer.
+    /// A call, with any reply.
     Call(Call),
-    /// A call, and the answer that it is expected to have.
+    /// A call, and its expected reply.
     Exchange(Exchange),
 }
 
-/// What a line asks for. A call with no answer after it is asked for whatever its answer, even though such a line of a
-/// script says that it was done. `Unreadable`: the line is neither such a call nor a line of a script. `NoMemory`: out
-/// of memory for what it holds.
+/// Reads the request of a line. A call without a reply accepts any reply, although in a script such a line means
+/// success. `Unreadable`: the line is neither such a call nor a line of a script. `NoMemory`: out of memory for its
+/// contents.
 pub fn read_asked(alloc: Global, line: &[u8]) -> Result<Asked, LineFault>
     ensures { UnlessMemory result (asked_read line.now) }
 {
@@ -29,7 +29,7 @@ pub fn read_asked(alloc: Global, line: &[u8]) -> Result<Asked, LineFault>
     }
 }
 
-/// What a line asks for that isn't just a call.
+/// Reads the request of a line that isn't only a call.
 fn read_answered(alloc: Global, line: &[u8]) -> Result<Asked, LineFault>
     ensures { UnlessMemory result (answered_read line.now) }
 {

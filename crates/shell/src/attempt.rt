@@ -8,7 +8,7 @@ use ipc_model::{Call, PlainCall};
 use std::alloc::AllocError;
 use words::push_word;
 
-/// The options of a receive: one attempt (a timeout of 0), unless it may wait.
+/// Returns the options of a receive: one attempt (a timeout of 0), unless it may wait.
 fn receive_options(large: bool, waits: bool) -> u32
     ensures { result ≡ receive_options large waits }
 {
@@ -20,7 +20,7 @@ fn receive_options(large: bool, waits: bool) -> u32
     }
 }
 
-/// Adds two numbers.
+/// Appends two words.
 fn push_two(out: &mut Vec<u8>, a: u32, b: u32) -> Result<(), AllocError>
     ensures { OnOk result (out.new.items ≡ out.old.items ++ (word a ++ word b)) }
 {
@@ -28,7 +28,7 @@ fn push_two(out: &mut Vec<u8>, a: u32, b: u32) -> Result<(), AllocError>
     push_word(out, b)
 }
 
-/// Adds a call's number, an option, a limit, a name, a timeout and a message.
+/// Appends a call's number, an option, a limit, a name, a timeout and a message.
 fn push_message(
     out: &mut Vec<u8>,
     call: (u32, u32),
@@ -45,7 +45,7 @@ fn push_message(
     out.extend_from_slice(message)
 }
 
-/// Adds the content of the frame that asks for a call which isn't numbered.
+/// Appends the content of the frame of a call that isn't numbered.
 fn push_plain_attempt(out: &mut Vec<u8>, call: &PlainCall) -> Result<(), AllocError>
     ensures { OnOk result (out.new.items ≡ out.old.items ++ plain_attempt_text call.now) }
 {
@@ -73,8 +73,8 @@ fn push_plain_attempt(out: &mut Vec<u8>, call: &PlainCall) -> Result<(), AllocEr
     }
 }
 
-/// Adds the content of the frame that asks for a call: a send and a receive as one attempt, which doesn't wait, and a
-/// receive that has `waited` as one that may. An `Err` may have added some of it.
+/// Appends the content of the frame of a call. A send or a receive is one attempt, which doesn't wait, except a receive
+/// with `waited`, which may wait. If an allocation fails, part of it may have been appended.
 pub fn push_attempt(out: &mut Vec<u8>, call: &Call) -> Result<(), AllocError>
     ensures { OnOk result (out.new.items ≡ out.old.items ++ attempt_text call.now) }
 {

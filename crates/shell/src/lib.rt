@@ -1,4 +1,4 @@
-//! A shell over a server's socket: lines of a script go to the server as frames, and each is printed with its answer.
+//! A shell for a server's socket: sends the calls in lines of a script to the server, and prints each with its reply.
 #![tactic(auto)]
 
 mod asked;

@@ -6,7 +6,7 @@ use script::Expected;
 use script_printing::{push_call, push_reply};
 use std::alloc::{AllocError, Global};
 
-/// Adds a number in decimal digits.
+/// Appends a number in decimal digits.
 fn push_decimal(out: &mut Vec<u8>, number: u64) -> Result<(), AllocError>
     ensures { OnOk result (out.new.items ≡ out.old.items ++ decimal number) }
 {
@@ -14,7 +14,7 @@ fn push_decimal(out: &mut Vec<u8>, number: u64) -> Result<(), AllocError>
     out.extend_from_slice(text.as_bytes())
 }
 
-/// Adds the beginning of a comment on a line.
+/// Appends the beginning of a comment on a line.
 #[tactic(auto, unfolding(crate::specs::Telling::place_encoding))]
 fn push_place(out: &mut Vec<u8>, number: u64) -> Result<(), AllocError>
     ensures { OnOk result (out.new.items ≡ out.old.items ++ place_encoding number) }
@@ -23,7 +23,7 @@ fn push_place(out: &mut Vec<u8>, number: u64) -> Result<(), AllocError>
     push_decimal(out, number)
 }
 
-/// Adds a comment on a line.
+/// Appends a comment on a line.
 fn push_comment(out: &mut Vec<u8>, number: u64, words: &[u8]) -> Result<(), AllocError>
     ensures { OnOk result (out.new.items ≡ out.old.items ++ (place_encoding number ++ words.now)) }
 {
@@ -31,7 +31,7 @@ fn push_comment(out: &mut Vec<u8>, number: u64, words: &[u8]) -> Result<(), Allo
     out.extend_from_slice(words)
 }
 
-/// Adds three parts.
+/// Appends three parts.
 fn push_parts(
     out: &mut Vec<u8>,
     first: &[u8],
@@ -45,7 +45,7 @@ fn push_parts(
     out.extend_from_slice(third)
 }
 
-/// What a line that can't be read was expected to have, in words.
+/// Returns a description of what was expected in a line that can't be read.
 fn expected_words(expected: Expected) -> &'static [u8]
     ensures { result.now ≡ expected_words expected }
 {
@@ -64,7 +64,7 @@ fn expected_words(expected: Expected) -> &'static [u8]
     }
 }
 
-/// Adds a column.
+/// Appends a column.
 #[tactic(auto, unfolding(crate::specs::Telling::column_encoding))]
 fn push_column(out: &mut Vec<u8>, column: usize) -> Result<(), AllocError>
     ensures { OnOk result (out.new.items ≡ out.old.items ++ column_encoding column) }
@@ -73,7 +73,7 @@ fn push_column(out: &mut Vec<u8>, column: usize) -> Result<(), AllocError>
     push_decimal(out, column as u64)
 }
 
-/// Adds what was expected, and the end of the line.
+/// Appends what was expected, and the end of the line.
 #[tactic(auto, unfolding(crate::specs::Telling::expected_text))]
 fn push_expected(out: &mut Vec<u8>, expected: Expected) -> Result<(), AllocError>
     ensures { OnOk result (out.new.items ≡ out.old.items ++ expected_text expected) }
@@ -81,7 +81,7 @@ fn push_expected(out: &mut Vec<u8>, expected: Expected) -> Result<(), AllocError
     push_parts(out, b": expected ", expected_words(expected), b"\n")
 }
 
-/// Adds the comment on a line that can't be read. An `Err` may have added some of it.
+/// Appends the comment about a line that can't be read. If an allocation fails, part of it may have been appended.
 pub fn push_wrong(
     out: &mut Vec<u8>,
     number: u64,
@@ -95,21 +95,23 @@ pub fn push_wrong(
     push_expected(out, expected)
 }
 
-/// Adds the comment on a line whose call is too long for a frame. An `Err` may have added some of it.
+/// Appends the comment about a line whose call is too long for a frame. If an allocation fails, part of it may have
+/// been appended.
 pub fn push_long(out: &mut Vec<u8>, number: u64) -> Result<(), AllocError>
     ensures { OnOk result (out.new.items ≡ out.old.items ++ long_line number) }
 {
     push_comment(out, number, b": a message that is too long for a frame\n")
 }
 
-/// Adds the comment on a line whose call got an answer that isn't one to it. An `Err` may have added some of it.
+/// Appends the comment about a line whose call got a frame that isn't a reply to it. If an allocation fails, part of it
+/// may have been appended.
 pub fn push_strange(out: &mut Vec<u8>, number: u64) -> Result<(), AllocError>
     ensures { OnOk result (out.new.items ≡ out.old.items ++ strange_line number) }
 {
     push_comment(out, number, b": a reply that isn't one of this call\n")
 }
 
-/// Adds the line of a call and its answer. An `Err` may have added some of it.
+/// Appends the line of a call and its reply. If an allocation fails, part of it may have been appended.
 #[tactic(auto, unfolding(crate::specs::Telling::answered_line))]
 pub fn push_answered(out: &mut Vec<u8>, call: &Call, reply: &Reply) -> Result<(), AllocError>
     ensures { OnOk result (out.new.items ≡ out.old.items ++ answered_line call.now reply.now) }
@@ -119,7 +121,7 @@ pub fn push_answered(out: &mut Vec<u8>, call: &Call, reply: &Reply) -> Result<()
     out.extend_from_slice(b"\n")
 }
 
-/// Adds the beginning of the comment on a line that gives another answer.
+/// Appends the beginning of the comment about a line with another reply.
 #[tactic(auto, unfolding(crate::specs::Telling::expected_place))]
 fn push_expected_place(out: &mut Vec<u8>, number: u64) -> Result<(), AllocError>
     ensures { OnOk result (out.new.items ≡ out.old.items ++ expected_place number) }
@@ -127,7 +129,8 @@ fn push_expected_place(out: &mut Vec<u8>, number: u64) -> Result<(), AllocError>
     push_comment(out, number, b", expected: ")
 }
 
-/// Adds the comment on a line that gives another answer than its call got. An `Err` may have added some of it.
+/// Appends the comment about a line with another reply than its call got. If an allocation fails, part of it may have
+/// been appended.
 pub fn push_difference(
     out: &mut Vec<u8>,
     number: u64,
@@ -140,7 +143,7 @@ pub fn push_difference(
     push_answered(out, call, wanted)
 }
 
-/// Whether two replies are written as the same line.
+/// Returns true if two replies have the same line.
 pub fn is_same_reply(alloc: Global, reply: &Reply, wanted: &Reply) -> Result<bool, AllocError>
     ensures { IfOk result (λ same. same ≡ is_same_reply reply.now wanted.now) }
 {

@@ -5,8 +5,8 @@ ghost use Rattle.shell.specs.Answers.{IsReplyTo};
 use ipc_model::Reply;
 use std::alloc::{AllocError, Global};
 
-/// The reply to a call with this number that a frame's content is, if it is one. Each such reply has a line after the
-/// call.
+/// Decodes the content of the frame of a reply to a call with this number, or returns `None` if it isn't one. Each such
+/// reply can be written after its call on a line.
 pub fn read_reply(alloc: Global, number: u32, content: &[u8]) -> Result<Option<Reply>, AllocError>
     ensures found { IfOk result (λ found. IfSome found (IsReplyTo number content.now)) }
     ensures only { (answer : Reply) → IsReplyTo number content.now answer → IfOk result (λ found. found ≡ Some answer) }

@@ -14,7 +14,7 @@ use std::net::Net;
 use std::os::unix::net::UnixStream;
 use wire::WireFault;
 
-/// The socket of `--script SOCKET`, if these are the words.
+/// Returns the socket if the arguments are `--script SOCKET`.
 pub fn script_socket(words: Option<&[String]>) -> Option<&str>
     ensures found { IfSome result (λ socket. option_map (λ texts. map string_bytes texts.now) words.entry
         ≡ Some (codes "--script" ∷ socket.now ∷ [])) }
@@ -30,9 +30,9 @@ pub fn script_socket(words: Option<&[String]>) -> Option<&str>
     }
 }
 
-/// The whole shell, over the socket of a server. It returns the status to end with: 0 if all lines were read, none was
-/// wrong, and each answer was its line's; 1 if one was wrong or different; 1 with a line of errors after a fault, or if
-/// the socket can't be connected to.
+/// Runs the shell on the socket of a server. Returns the exit status: 0 if all lines were read, none was wrong, and
+/// each reply was the expected one; 1 if a line was wrong or a reply different; 1 with an error message after a fault,
+/// or if the socket can't be connected to.
 pub fn run_shell<N: Net, I: BufRead, O: Write + Drop, E: Write>(
     alloc: Global,
     net: &N,
@@ -52,7 +52,7 @@ pub fn run_shell<N: Net, I: BufRead, O: Write + Drop, E: Write>(
     status_of(end)
 }
 
-/// The status to end with.
+/// Returns the exit status.
 fn status_of(end: Result<bool, RelayEnd>) -> u8
     ensures { result ≡ status_of end }
 {
@@ -63,7 +63,7 @@ fn status_of(end: Result<bool, RelayEnd>) -> u8
     }
 }
 
-/// Writes the line of errors, if there is one.
+/// Writes the error message, if there is one.
 fn tell<E: Write>(end: Result<bool, RelayEnd>, errors: &mut E)
     ensures { AppendsPart (E.contents errors.old) (E.contents errors.new) (line_of end) }
 {

@@ -13,17 +13,17 @@ use std::alloc::Global;
 use std::io::{BufRead, BufWriter, ErrorKind, Read, Write};
 use wire::{WireFault, write_bytes};
 
-/// What became of a line.
+/// The outcome of a line.
 #[derive(Clone, Copy)]
 pub struct Turn {
-    /// Whether the line could be read, and its answer is the one that it gives, if it gives one.
+    /// True if the line could be read, and its call got the expected reply, if one is expected.
     pub is_well: bool,
-    /// The space that the task is attached to from here on.
+    /// The space that the task is attached to after this line.
     pub space: u32,
 }
 
-/// The next line of the input, with its end if it has one, or `None` at the end of the input. `NoMemory`: out of memory
-/// for it. `Device`: the reader failed within it, and it is lost.
+/// Reads the next line of the input, with its end if it has one, or returns `None` at the end of the input. `NoMemory`:
+/// out of memory for it. `Device`: the reader failed within the line, which is lost.
 fn next_line<I: BufRead>(alloc: Global, input: &mut I) -> Result<Option<Vec<u8>>, WireFault>
     ensures line { IfOk result (λ found. IfSome found
         (λ line. Consumes (I.remaining input.old) (I.remaining input.new) line.items)) }
@@ -38,7 +38,7 @@ fn next_line<I: BufRead>(alloc: Global, input: &mut I) -> Result<Option<Vec<u8>>
     }
 }
 
-/// The fault of a reader that fails in this way.
+/// Returns the fault for an error of a reader.
 fn read_fault(kind: ErrorKind) -> WireFault {
     if kind == ErrorKind::OutOfMemory {
         WireFault::NoMemory
@@ -47,7 +47,7 @@ fn read_fault(kind: ErrorKind) -> WireFault {
     }
 }
 
-/// A line without its end.
+/// Returns a line without its end.
 fn without_end(line: &[u8]) -> &[u8]
     ensures { result.now ≡ strip_last 10 line.now }
 {
@@ -57,7 +57,7 @@ fn without_end(line: &[u8]) -> &[u8]
     }
 }
 
-/// Writes a text, and flushes it. `Device`: the writer failed, and some first bytes of the text may have been written.
+/// Writes a text, and flushes it. `Device`: the writer failed, and a prefix of the text may have been written.
 fn say<W: Write + Drop>(output: &mut BufWriter<W>, text: &[u8]) -> Result<(), WireFault>
     ensures ok { OnOk result (Appends (writer_contents W.contents output.old)
         (writer_contents W.contents output.new) text.now) }
@@ -72,8 +72,8 @@ fn say<W: Write + Drop>(output: &mut BufWriter<W>, text: &[u8]) -> Result<(), Wi
     Ok(())
 }
 
-/// Does what a line asks for: its call is made, and what is printed for it is written and flushed. The faults are those
-/// of `hear`, and `Device` if the output can't be written.
+/// Handles a line: makes its call, and writes and flushes what is printed for it. The faults are those of `hear`, and
+/// `Device` if the output can't be written.
 pub fn take_turn<O: Write + Drop, P: Read, S: Write + Drop>(
     alloc: Global,
     place: Place,
@@ -100,14 +100,14 @@ pub fn take_turn<O: Write + Drop, P: Read, S: Write + Drop>(
     })
 }
 
-/// Whether both hold.
+/// Returns true if both hold.
 fn both(a: bool, b: bool) -> bool
     ensures { result ≡ (a && b) }
 {
     a && b
 }
 
-/// Writes the prompt of a space, if asked to. A prompt that can't be written is left out.
+/// Writes the prompt of a space, if prompts are on. A failure to write it is ignored.
 fn prompt<E: Write>(alloc: Global, errors: &mut E, is_prompting: bool, space: u32)
     ensures quiet { is_prompting ≡ false → E.contents errors.new ≡ E.contents errors.old }
 {
@@ -120,9 +120,9 @@ fn prompt<E: Write>(alloc: Global, errors: &mut E, is_prompting: bool, space: u3
     }
 }
 
-/// Does what each line of the input asks for, one after another. Returns whether each could be read, and each answer
-/// was its line's. If a prompt is asked for, one with the space that the task is attached to is written on `errors` in
-/// front of each line: the output stays a script.
+/// Handles the lines of the input, one after another. Returns true if each could be read and got the expected reply. If
+/// prompts are on, it writes a prompt with the task's space to `errors` before each line, so that the output stays a
+/// script.
 pub fn converse<I: BufRead, O: Write + Drop, P: Read, S: Write + Drop, E: Write>(
     alloc: Global,
     input: &mut I,
@@ -132,7 +132,7 @@ pub fn converse<I: BufRead, O: Write + Drop, P: Read, S: Write + Drop, E: Write>
     errors: &mut E,
     is_prompting: bool,
 ) -> Result<bool, WireFault>
-    // All that was read, sent, heard and printed, line by line.
+    // The bytes read, sent, received and printed, line by line.
     ensures all { IfOk result
         (λ well. TalksAll (side (I.remaining input.old) (writer_contents O.contents output.old)
         (writer_buffer output.old))

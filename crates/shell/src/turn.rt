@@ -24,27 +24,27 @@ use std::alloc::{AllocError, Global};
 use std::io::{BufWriter, Read, Write};
 use wire::{Frame, WireFault};
 
-/// Where a line stands.
+/// The place of a line in the session.
 #[derive(Clone, Copy)]
 pub struct Place {
-    /// Its number, from 1.
+    /// The line's number, from 1.
     pub number: u64,
     /// The space that the task is attached to.
     pub space: u32,
 }
 
-/// What is printed for a line.
+/// The text that is printed for a line.
 #[derive(Drop)]
 pub struct Printed {
     /// The text, with its ends of lines.
     pub text: Vec<u8>,
-    /// Whether the line could be read, and its answer is the one that it gives, if it gives one.
+    /// True if the line could be read, and its call got the expected reply, if one is expected.
     pub is_well: bool,
-    /// The space that the task is attached to from here on.
+    /// The space that the task is attached to after this line.
     pub space: u32,
 }
 
-/// The call that a line asks for.
+/// Returns the call of a request.
 fn call_of(asked: &Asked) -> Option<&Call>
     ensures { MatchOption result (call_of asked.now ≡ None) (λ c. call_of asked.now ≡ Some c.now) }
 {
@@ -55,7 +55,7 @@ fn call_of(asked: &Asked) -> Option<&Call>
     }
 }
 
-/// The space that a task of this space is attached to after a call with this reply.
+/// Returns the space of a task after a call with this reply.
 fn space_after(space: u32, call: &Call, reply: &Reply) -> u32
     ensures { result ≡ (if succeeded reply.now then attached_by space call.now else space) }
 {
@@ -66,7 +66,7 @@ fn space_after(space: u32, call: &Call, reply: &Reply) -> u32
     }
 }
 
-/// Adds the comment that another answer was expected, if it was.
+/// Appends the comment that another reply was expected, if it was.
 fn push_unless_same(
     text: &mut Vec<u8>,
     number: u64,
@@ -82,8 +82,8 @@ fn push_unless_same(
     push_difference(text, number, &exchange.call, &exchange.reply)
 }
 
-/// Adds the line of a call and its answer, and a comment if another was expected. Returns whether it is the expected
-/// one.
+/// Appends the line of a call and its reply, and a comment if another one was expected. Returns true if the reply is
+/// the expected one.
 fn push_compared(
     alloc: Global,
     text: &mut Vec<u8>,
@@ -101,8 +101,8 @@ fn push_compared(
     Ok(is_same)
 }
 
-/// Adds what is printed for a line whose call got this reply. Returns whether it is the answer that the line gives, if
-/// it gives one.
+/// Appends the text for a line whose call got this reply. Returns true if the reply is the expected one, or none is
+/// expected.
 fn push_said(
     alloc: Global,
     text: &mut Vec<u8>,
@@ -123,7 +123,7 @@ fn push_said(
     }
 }
 
-/// What is printed for a line whose call got this reply.
+/// Returns the text for a line whose call got this reply.
 fn tell_reply(
     alloc: Global,
     place: Place,
@@ -145,7 +145,7 @@ fn tell_reply(
     })
 }
 
-/// What is printed for a line whose call got an answer that is no reply to it.
+/// Returns the text for a line whose call got a frame that isn't a reply to it.
 fn tell_strange(alloc: Global, place: Place) -> Result<Printed, AllocError>
     ensures text { IfOk result (λ printed. printed.text.items ≡ strange_line place.number) }
     ensures well { IfOk result (λ printed. printed.is_well ≡ false) }
@@ -159,7 +159,7 @@ fn tell_strange(alloc: Global, place: Place) -> Result<Printed, AllocError>
     })
 }
 
-/// What is printed for a line whose call is answered by a frame with this content.
+/// Returns the text for a line whose call got a frame with this content.
 fn tell_content(
     alloc: Global,
     place: Place,
@@ -181,7 +181,7 @@ fn tell_content(
     }
 }
 
-/// What is printed for a line whose call is too long for a frame.
+/// Returns the text for a line whose call is too long for a frame.
 fn tell_long(alloc: Global, place: Place) -> Result<Printed, AllocError>
     ensures text { IfOk result (λ printed. printed.text.items ≡ long_line place.number) }
     ensures well { IfOk result (λ printed. printed.is_well ≡ false) }
@@ -195,7 +195,7 @@ fn tell_long(alloc: Global, place: Place) -> Result<Printed, AllocError>
     })
 }
 
-/// What is printed for a line that can't be read.
+/// Returns the text for a line that can't be read.
 fn tell_wrong(
     alloc: Global,
     place: Place,
@@ -214,7 +214,7 @@ fn tell_wrong(
     })
 }
 
-/// The content of the frame that asks for a call.
+/// Returns the content of the frame of a call.
 fn content_of(alloc: Global, call: &Call) -> Result<Vec<u8>, AllocError>
     ensures { IfOk result (λ content. content.items ≡ attempt_text call.now) }
 {
@@ -223,7 +223,7 @@ fn content_of(alloc: Global, call: &Call) -> Result<Vec<u8>, AllocError>
     Ok(content)
 }
 
-/// Whether a frame can have this many bytes of content.
+/// Returns true if a frame can have this many bytes of content.
 fn is_content_length(length: usize) -> bool
     ensures { result ≡ is_content_length length }
 {
@@ -248,7 +248,7 @@ fn exchange<P: Read, S: Write + Drop>(
     next_reply(alloc, replies)
 }
 
-/// Sends the frame of a line's call, and makes what is printed from the reply.
+/// Sends the frame of a line's call, and returns the text for its reply.
 fn ask_call<P: Read, S: Write + Drop>(
     alloc: Global,
     place: Place,
@@ -272,7 +272,7 @@ fn ask_call<P: Read, S: Write + Drop>(
     Ok(printed)
 }
 
-/// Makes the call of what a line asks for, if it is one.
+/// Makes the call of a request, if it has one.
 fn ask<P: Read, S: Write + Drop>(
     alloc: Global,
     place: Place,
@@ -295,10 +295,10 @@ fn ask<P: Read, S: Write + Drop>(
     }
 }
 
-/// Makes the call of a line, if it has one, and returns what is printed for the line.
+/// Makes the call of a line, if it has one, and returns the text that is printed for the line.
 ///
-/// `NoMemory`: out of memory for what the line or the reply holds, or for the text. `Short`: the server ended before
-/// the reply. The other faults are those of the streams.
+/// `NoMemory`: out of memory for the contents of the line or the reply, or for the text. `Short`: the server ended
+/// before the reply. The other faults are those of the streams.
 pub fn hear<P: Read, S: Write + Drop>(
     alloc: Global,
     place: Place,

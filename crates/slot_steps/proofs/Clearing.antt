@@ -9,7 +9,7 @@ use Rattle.slot_steps.proofs.Gates.{closed_or_open}
 use Rattle.slot_steps.proofs.Lengths.{own_of}
 use Rattle.slot_steps.specs.Steps.{ClearsSlot, shortened}
 
--- a slot with a whole header that isn't open has a closed gate
+-- a slot with a complete header that isn't open has a closed gate
 pub shut_closed : (header : ℕ) (slot : List ℕ) → header ≤ length slot → IsNotOpen header slot → IsClosed slot
 shut_closed header slot whole shut = elim (closed_or_open slot) [
   | inl closed ↦ closed

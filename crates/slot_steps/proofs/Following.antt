@@ -1,4 +1,4 @@
--- What a crash may leave of one slot, whatever it might have left of the others before.
+-- The contents that a crash may leave in one slot, whatever it might have left in the others before.
 use Rattle.std.proofs.Common.{◌≡◌, inl, inr, ℕ, zero, suc, ◌<◌, List, [], ◌∷◌, take, get_or, sym, ap, subst, ◌∙◌, arith, Result, Ok, Err, OnOk}
 use Rattle.disk.specs.declared.slot.Slot.{Slot}
 use Rattle.disk.specs.Moments.{View, MayLeave, Passes, Follows, IsSynced}
@@ -7,12 +7,12 @@ use Rattle.ipc_model.specs.store.Store.{IsClosed}
 use Rattle.slot_steps.specs.Steps.{IsShut, IsStillClosed}
 use Rattle.disk.proofs.Moments.{left_now, left_before, passes_then, passes_as, with_own, with_twice}
 
--- what a crash might have left before, if that is a step
+-- the contents that a crash might have left before, if they satisfy the step
 pub follows_self : (slot : Slot) (old : View) (step : List ℕ → List ℕ → Type 0) (c : Slots) → MayLeave old c
     → step (slot_of c slot) (slot_of c slot) → Follows old slot step c
 follows_self slot old step c left is = (c, left, is, sym (with_own slot c))
 
--- another description of how a step changes what a crash might have left
+-- a weaker description of the step's effect on the contents after a crash
 pub follows_as : (slot : Slot) (old new : View) (P R : List ℕ → List ℕ → Type 0) → Passes old new (Follows old slot P)
     → ((d : Slots) (after : List ℕ) → MayLeave old d → P (slot_of d slot) after → R (slot_of d slot) after)
     → Passes old new (Follows old slot R)
@@ -20,7 +20,7 @@ follows_as slot old new P R time less =
     passes_as old new (Follows old slot P) (Follows old slot R) time
     (λ c made. (made.0, made.1, less made.0 (slot_of c slot) made.1 made.2, made.3))
 
--- one step after another
+-- two successive steps
 pub follows_join : (slot : Slot) (old mid : View) (P Q R : List ℕ → List ℕ → Type 0)
     → Passes old mid (Follows old slot P)
     → ((d : Slots) (after : List ℕ) → MayLeave old d → Q (slot_of d slot) after → R (slot_of d slot) after)
@@ -51,7 +51,7 @@ follows_then slot old mid new P Q R first second early alone both =
     (λ c made. (made.0, made.1, early made.0 (slot_of c slot) made.1 made.2, made.3))
     (follows_join slot old mid P Q R first alone both)
 
--- a call, and then one that changes nothing
+-- a call, then one that changes nothing
 pub follows_still : (slot : Slot) (old mid new : View) (P : List ℕ → List ℕ → Type 0) → ((x : List ℕ) → P x x)
     → Passes old mid (Follows old slot P) → Passes mid new (MayLeave mid) → Passes old new (Follows old slot P)
 follows_still slot old mid new P same first second =
@@ -61,7 +61,7 @@ follows_still slot old mid new P same first second =
       | inr since ↦ since
     ])
 
--- and then a call
+-- a call that changes nothing, then another one
 pub still_then : (slot : Slot) (old mid new : View) (P : List ℕ → List ℕ → Type 0) → ((x : List ℕ) → P x x)
     → Passes old mid (MayLeave old) → Passes mid new (Follows mid slot P) → Passes old new (Follows old slot P)
 still_then slot old mid new P same first second =
@@ -69,9 +69,9 @@ still_then slot old mid new P same first second =
     (λ c left. follows_self slot old P c left (same (slot_of c slot)))
     (λ c made. (made.0, left_before old mid first made.0 made.1, made.2, made.3))
 
--- after a gate that isn't open
+-- After a closed gate.
 
--- the first byte, of those that stay as they were
+-- a gate among bytes that are unchanged stays closed
 pub still_closed : (n : ℕ) (before after : List ℕ) → 0 < n → take n after ≡ take n before → IsClosed before
     → IsClosed after
 still_closed zero before after some is closed = absurd (omega (arith, some))
@@ -98,7 +98,7 @@ shut_kept slot old new shut time c left =
     elim (left_now old new (Follows old slot IsStillClosed) time c left)
     [ inl before ↦ shut c before | inr since ↦ since.2 ]
 
--- a slot that is synced with no open gate
+-- a synced slot without an open gate
 pub synced_shut : (slot : Slot) (disk : View) → IsSynced disk slot → IsClosed (slot_of disk.seen slot)
     → IsShut disk slot
 synced_shut slot disk synced closed c left = subst IsClosed (sym (synced c left)) closed
@@ -112,11 +112,11 @@ others_stay slot old new step time c left = elim (left_now old new (Follows old 
   | inr since ↦ (since.0, since.1, since.3)
 ]
 
--- what holds whatever a call answered
+-- a fact holds in case of success too
 pub always_ok : {T E P : Type 0} (r : Result T E) → P → OnOk r P
 always_ok r p = elim r as (λ v. OnOk v _) [ Ok x ↦ p | Err e ↦ tt ]
 
--- one call after another, after a gate that isn't open
+-- two successive calls after a closed gate
 pub closed_then : (slot : Slot) (old mid new : View) → Passes old mid (Follows old slot IsStillClosed)
     → Passes mid new (Follows mid slot IsStillClosed) → Passes old new (Follows old slot IsStillClosed)
 closed_then slot old mid new first second =

@@ -1,4 +1,4 @@
--- A slot's gate, as it is read and while it is written.
+-- A slot's gate, when it is read and while it is written.
 use Rattle.std.proofs.Common.{◌≡◌, ◌⊎◌, inl, inr, ℕ, ◌<◌, List, [], ◌∷◌, ◌++◌, length, take, drop, get_or, refl, sym, ap, ◌∙◌, arith}
 use Rattle.std.proofs.lemmas.Bool.{cases_lt}
 use Rattle.disk.specs.declared.slot.Slot.{Slot}
@@ -9,7 +9,7 @@ use Rattle.ipc_model.specs.store.Store.{IsClosed, open_gate}
 use Rattle.slot_steps.specs.Steps.{HasSomeGate, IsClosing, IsRemade, IsStillClosed}
 use Rattle.slot_steps.proofs.Following.{follows_as, follows_then}
 
--- an open gate, and what stands after it
+-- an open gate, and the bytes after it
 pub gate_apart : (slot : List ℕ) → take 1 slot ≡ open_gate ∷ [] → slot ≡ open_gate ∷ drop 1 slot
 gate_apart [] is = absurd (cc is)
 gate_apart (gate ∷ rest) is = ap (λ (l : List ℕ). get_or l 0 0 ∷ rest) is
@@ -32,7 +32,7 @@ no_open_gate (gate ∷ rest) shut is = shut (ap (λ (l : List ℕ). get_or l 0 0
 pub closed_not_open : (header : ℕ) (slot : List ℕ) → IsClosed slot → IsOpen header slot → ⊥
 closed_not_open header slot shut is_open = no_open_gate slot shut is_open.1
 
--- a gate that is written, or isn't
+-- a write of the gate, which a crash may interrupt
 pub torn_gate : (before after : List ℕ) → TornWrite 0 1 before after → HasSomeGate before after
 torn_gate before after torn = record { beyond = torn.after; no_shorter = torn.no_shorter; no_longer = torn.no_longer }
 
@@ -50,12 +50,12 @@ gate_closing header before after some needs gate = elim needs [
   ]
 ]
 
--- what stands after the first byte of a slot
+-- the bytes after the first byte of a slot
 pub after_first : (slot encoding : List ℕ) → 0 < length slot → drop 1 (take 1 slot ++ encoding) ≡ encoding
 after_first [] encoding some = absurd (omega (arith, some))
 after_first (gate ∷ rest) encoding some = refl
 
--- a gate that is being opened: it isn't open, or all that stood after it stands there
+-- a gate that is being opened is closed, or open with all the bytes after it
 pub gate_opened : (beyond shut after : List ℕ) → drop 1 shut ≡ beyond → HasSomeGate shut after → IsClosed after
     ⊎ (after ≡ open_gate ∷ beyond)
 gate_opened beyond shut after is gate = elim (closed_or_open after) [
@@ -63,7 +63,7 @@ gate_opened beyond shut after is gate = elim (closed_or_open after) [
   | inr whole ↦ inr (whole ∙ ap (λ (l : List ℕ). open_gate ∷ l) (gate.beyond ∙ is))
 ]
 
--- a slot is closed, and then written after its gate
+-- a slot is closed, then written after its gate
 pub closing_then : (slot : Slot) (old mid new : View) (header : ℕ)
     → Passes old mid (Follows old slot (IsClosing header)) → Passes mid new (Follows mid slot IsStillClosed)
     → Passes old new (Follows old slot (IsClosing header))
@@ -73,7 +73,7 @@ closing_then slot old mid new header first second =
     (λ d after left shut. inr (closed_not_open header after shut))
     (λ d between after left early late. inr (closed_not_open header after late))
 
--- and then its gate is opened before what stands after it
+-- the gate is opened before the bytes after it
 pub opening_then : (slot : Slot) (old mid new : View) (beyond : List ℕ) → IsSynced mid slot
     → drop 1 (slot_of mid.seen slot) ≡ beyond → Passes old mid (Follows old slot IsStillClosed)
     → Passes mid new (Follows mid slot HasSomeGate)
@@ -90,7 +90,7 @@ opening_then slot old mid new beyond synced is first second =
     (λ (before after : List ℕ). IsClosed after ⊎ (after ≡ open_gate ∷ beyond)) first opening
     (λ d after left shut. inl shut) (λ d after left opened. opened) (λ d between after left early late. late)
 
--- a slot gets new content: it is closed, and then the content stands there or its gate isn't open
+-- a slot gets new content: it is closed, then it has the whole content, or its gate isn't open
 pub closing_remade : (slot : Slot) (old new : View) (header : ℕ) (content : List ℕ)
     → Passes old new (Follows old slot (IsClosing header)) → Passes old new (Follows old slot (IsRemade header content))
 closing_remade slot old new header content time =

@@ -1,4 +1,4 @@
--- How long what is written is.
+-- The lengths of written bytes.
 use Rattle.std.proofs.Common.{◌≡◌, ℕ, ◌+◌, ◌≤◌, ◌<◌, List, [], ◌∷◌, ◌++◌, length, take, drop, replicate, Result, Ok, Err, OnOk, ap, ◌∙◌, arith, length-append, length-take}
 use Rattle.std.proofs.lemmas.List.{append-nil, take_all, drop_all}
 use Rattle.disk.specs.declared.slot.Slot.{Slot}
@@ -19,7 +19,7 @@ written_long old bytes at fits =
 pub cut_length : (old : List ℕ) (n : ℕ) → n ≤ length old → length (take n old) ≡ n
 cut_length old n fits = omega (arith, length-take n old)
 
--- what follows on success
+-- a consequence in case of success
 pub on_ok : {T E P Q : Type 0} (r : Result T E) → (P → Q) → OnOk r P → OnOk r Q
 on_ok (Ok x) f p = f p
 on_ok (Err e) f p = tt
@@ -40,11 +40,11 @@ cleared slot old new long is =
     ap (λ (s : Slots). length (slot_of s slot)) is ∙ ap length (own_bytes slot old (take 24 (slot_of old slot)))
     ∙ cut_length (slot_of old slot) 24 long
 
--- what holds anyway
+-- a fact holds in case of success too
 pub always : {T E P : Type 0} (r : Result T E) → P → OnOk r P
 always r p = elim r as (λ v. OnOk v _) [ Ok x ↦ p | Err e ↦ tt ]
 
--- after the gate, which is all that was left of a slot
+-- the slot after a write behind its gate, if the gate was its only byte
 pub segment_written : (slot : Slot) (old mid new after : Slots) (start : List ℕ) → 0 < length (slot_of old slot)
     → mid ≡ with_slot old slot (take 1 (slot_of old slot))
     → new ≡ with_slot mid slot (written_at (slot_of mid slot) 1 start) → after ≡ new
@@ -59,7 +59,7 @@ segment_written slot old mid new after start some first second last =
     last ∙ second ∙ (λ i. with_slot (first i) slot (written_at (own i) 1 start))
     ∙ with_twice slot old gate (written_at gate 1 start) ∙ ap (λ (b : List ℕ). with_slot old slot b) whole
 
--- a gate that isn't open stays so while what stands after it is written or truncated
+-- a closed gate stays closed while the bytes after it are written or truncated
 pub closed_written : (slot : List ℕ) (bytes : List ℕ) → 0 < length slot → IsClosed slot
     → IsClosed (written_at slot 1 bytes)
 closed_written [] bytes some shut = absurd (omega (arith, some))
@@ -69,7 +69,7 @@ pub closed_cut : (slot : List ℕ) → IsClosed slot → IsClosed (take 24 slot)
 closed_cut [] shut = tt
 closed_cut (gate ∷ rest) shut = shut
 
--- the bytes of one slot, if only that slot was changed
+-- the bytes of one slot, if only it was changed
 pub own_of : (slot : Slot) (old new : Slots) (bytes : List ℕ) → new ≡ with_slot old slot bytes
     → slot_of new slot ≡ bytes
 own_of slot old new bytes is = ap (λ (s : Slots). slot_of s slot) is ∙ own_bytes slot old bytes

@@ -1,5 +1,4 @@
--- What is done to one slot of a store: its gate is closed, what stands after the gate is written, and the gate is
--- opened.
+-- The steps on one slot of a store: its gate is closed, the bytes after the gate are written, and the gate is opened.
 use Rattle.std.specs.Prelude.{◌≡◌, ◌⊎◌, ℕ, ◌≤◌, ◌<◌, ◌%◌, ◌-◌, ◌==◌, max, List, ◌∷◌, length, take, drop, if◌then◌else◌}
 use Rattle.disk.specs.declared.slot.Slot.{Slot}
 use Rattle.disk.specs.declared.slot.Slot.TheVariants.{Image0, Image1, Segment0, Segment1}
@@ -19,26 +18,26 @@ segment_slot epoch = if epoch % 2 == 0 then Segment0 else Segment1
 abbrev pub IsShut : View → Slot → Type 0
 IsShut disk slot = (c : Slots) → MayLeave disk c → IsClosed (slot_of c slot)
 
--- Something was written after a gate that isn't open, and a crash interrupted that.
+-- The slot after a crash interrupted a write after a closed gate.
 abbrev pub IsStillClosed : List ℕ → List ℕ → Type 0
 IsStillClosed before after = IsClosed after
 
--- A slot's gate was written, and a crash interrupted that: any byte stands in its place, or none where the slot was
--- empty. What stood after it still stands there.
+-- The slot after a crash interrupted the write of its gate: it has any byte as its gate, or none if the slot was empty.
+-- The bytes after the gate are unchanged.
 pub record HasSomeGate (before after : List ℕ) : Type 0 where
   pub beyond : drop 1 after ≡ drop 1 before
   pub no_shorter : length before ≤ length after
   pub no_longer : length after ≤ max (length before) 1
 
--- a slot that is being closed is as it was, or it isn't open
+-- a slot that is being closed is unchanged, or isn't open
 abbrev pub IsClosing : ℕ → List ℕ → List ℕ → Type 0
 IsClosing header before after = (after ≡ before) ⊎ IsNotOpen header after
 
--- a slot that gets new content is as it was, or it isn't open, or it holds all of that content
+-- a slot that gets new content is unchanged, or isn't open, or holds the whole content
 abbrev pub IsRemade : ℕ → List ℕ → List ℕ → List ℕ → Type 0
 IsRemade header content before after = IsClosing header before after ⊎ (after ≡ content)
 
--- the length of a slot after a truncation by at most `most` bytes that leaves its header
+-- the length of a slot after a truncation by at most `most` bytes that keeps its header
 abbrev pub shortened : ℕ → ℕ → ℕ → ℕ
 shortened header most length = max header (length - most)
 
@@ -49,7 +48,7 @@ IsClearing header most before after =
     ⊎ (IsNotOpen header before × (header < length before)
     × (after ≡ take (shortened header most (length before)) before))
 
--- A step that clears a slot. No other slot changes.
+-- A step that clears a slot. The other slots are unchanged.
 pub record ClearsSlot (header most : ℕ) (old new : View) (slot : Slot) : Type 0 where
   pub step : IsClearing header most (slot_of old.seen slot) (slot_of new.seen slot)
   pub closed : IsClosed (slot_of new.seen slot)

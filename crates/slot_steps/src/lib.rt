@@ -1,5 +1,4 @@
-//! What is done to one slot of a store: its gate is closed, what stands after the gate is written, and the gate is
-//! opened; or the slot is cleared.
+//! Steps on one slot of a store: close its gate, write the bytes after the gate, open the gate, or clear the slot.
 #![tactic(auto)]
 
 mod slots;

@@ -3,20 +3,20 @@ ghost use Rattle.slot_steps.specs.Steps.{image_slot as slot_of_image, segment_sl
 
 use disk::Slot;
 
-/// A gate with this byte is open: what stands after it counts.
+/// The byte of an open gate: the bytes after it are valid.
 pub const OPEN_GATE: u8 = 0x5a;
 
 /// A closed gate.
 pub const CLOSED_GATE: u8 = 0;
 
-/// How many bytes an image slot has before its encoded state: the gate, the version, six zero bytes, the epoch and the
-/// length of that encoding.
+/// Length in bytes of an image slot's header: the gate, the version, six zero bytes, the epoch and the length of the
+/// encoded state.
 pub const IMAGE_HEADER: usize = 24;
 
-/// How many bytes a segment slot has before its first batch: the gate, the version, six zero bytes and the epoch.
+/// Length in bytes of a segment slot's header: the gate, the version, six zero bytes and the epoch.
 pub const SEGMENT_HEADER: usize = 16;
 
-/// The slot of an epoch's image.
+/// Returns the slot of an epoch's image.
 pub fn image_slot(epoch: u64) -> Slot
     ensures { result ≡ slot_of_image epoch }
 {
@@ -27,7 +27,7 @@ pub fn image_slot(epoch: u64) -> Slot
     }
 }
 
-/// The slot of an epoch's segment.
+/// Returns the slot of an epoch's segment.
 pub fn segment_slot(epoch: u64) -> Slot
     ensures { result ≡ slot_of_segment epoch }
 {

@@ -1,4 +1,5 @@
-// Each says what a crash at any moment of it may leave, whatever a crash before might have left of the other slots.
+// Each contract states what a crash at any moment of the step may leave, whatever a crash before might have left in the
+// other slots.
 ghost use Rattle.std.specs.Prelude.{◌≡◌, ◌↔◌, ◌⊎◌, ◌≤◌, ◌<◌, ◌∷◌, [], length, take, drop, IsTrue, MatchBool, OnOk, IfOk, ◌+◌};
 ghost use Rattle.disk.specs.Slots.{slot_of, with_slot, written_at};
 ghost use Rattle.disk.specs.Moments.{CountsFailure, Follows, IsSynced, MayLeave, Passes, ReadsOnly};
@@ -9,7 +10,7 @@ ghost use Rattle.slot_steps.specs.Steps.{ClearsSlot, FindsSlotClear, HasSomeGate
 use crate::slots::{CLOSED_GATE, OPEN_GATE};
 use disk::{Disk, DiskFault, Slot};
 
-/// Writes the gate of a slot, on the disk.
+/// Writes the gate of a slot, and syncs it.
 pub fn write_gate<D: Disk>(disk: &mut D, slot: Slot, gate: u8) -> Result<(), DiskFault>
     ensures written { D.honest → OnOk result ((D.view disk.new).seen
         ≡ with_slot (D.view disk.old).seen slot (gate ∷ drop 1 (slot_of (D.view disk.old).seen slot))) }
@@ -23,7 +24,7 @@ pub fn write_gate<D: Disk>(disk: &mut D, slot: Slot, gate: u8) -> Result<(), Dis
     disk.sync(slot)
 }
 
-/// Whether a slot's gate is open, or its header isn't whole.
+/// Returns true if a slot's gate is open, or its header isn't complete.
 fn needs_closing<D: Disk>(disk: &mut D, slot: Slot, header: usize) -> Result<bool, DiskFault>
     requires { 1 < header }
     ensures needs { D.honest → IfOk result
@@ -42,8 +43,8 @@ fn needs_closing<D: Disk>(disk: &mut D, slot: Slot, header: usize) -> Result<boo
     Ok(gate[0] == OPEN_GATE)
 }
 
-/// Makes sure that a closed gate stands at the front of a slot, on the disk. A closed gate with a whole header isn't
-/// written over: a crash within that write could leave an open gate before an old header.
+/// Ensures that a durable closed gate is at the front of a slot. A closed gate with a complete header isn't
+/// overwritten, because a crash during that write could leave an open gate before an old header.
 pub fn close_slot<D: Disk>(disk: &mut D, slot: Slot, header: usize) -> Result<(), DiskFault>
     requires { 1 < header }
     ensures begun { D.honest → OnOk result (0 < length (slot_of (D.view disk.new).seen slot)) }
@@ -62,7 +63,7 @@ pub fn close_slot<D: Disk>(disk: &mut D, slot: Slot, header: usize) -> Result<()
     disk.sync(slot)
 }
 
-/// Writes after a slot's gate.
+/// Writes bytes after a slot's gate.
 pub fn write_after<D: Disk>(
     disk: &mut D,
     slot: Slot,
@@ -97,7 +98,7 @@ pub fn cut_after<D: Disk>(disk: &mut D, slot: Slot, len: u64) -> Result<(), Disk
     disk.cut(slot, len)
 }
 
-/// Syncs what stands after a slot's gate.
+/// Syncs the bytes after a slot's gate.
 pub fn sync_after<D: Disk>(disk: &mut D, slot: Slot) -> Result<(), DiskFault>
     ensures seen { D.honest → (D.view disk.new).seen ≡ (D.view disk.old).seen }
     ensures synced { D.honest → OnOk result (IsSynced (D.view disk.new) slot) }
@@ -109,7 +110,7 @@ pub fn sync_after<D: Disk>(disk: &mut D, slot: Slot) -> Result<(), DiskFault>
     disk.sync(slot)
 }
 
-/// Returns true if a slot has a whole header and an open gate.
+/// Returns true if a slot has a complete header and an open gate.
 fn has_open_gate<D: Disk>(disk: &mut D, slot: Slot, header: usize) -> Result<bool, DiskFault>
     requires { 1 < header }
     ensures open { D.honest → IfOk result (λ is_open. MatchBool is_open
@@ -126,14 +127,14 @@ fn has_open_gate<D: Disk>(disk: &mut D, slot: Slot, header: usize) -> Result<boo
     Ok(front[0] == OPEN_GATE)
 }
 
-/// Returns the length of a slot after a truncation by at most `most` bytes that leaves its header.
+/// Returns the length of a slot after a truncation by at most `most` bytes that keeps its header.
 fn length_after(length: u64, header: u64, most: u64) -> u64
     ensures { result ≡ shortened header most length }
 {
     length.saturating_sub(most).max(header)
 }
 
-/// Truncates a slot after its gate, on the disk.
+/// Truncates a slot after its gate, and syncs it.
 fn cut_synced<D: Disk>(disk: &mut D, slot: Slot, len: u64) -> Result<(), DiskFault>
     requires beyond { 0 < len }
     requires inside { D.honest → len ≤ length (slot_of (D.view disk.old).seen slot) }
@@ -149,7 +150,7 @@ fn cut_synced<D: Disk>(disk: &mut D, slot: Slot, len: u64) -> Result<(), DiskFau
     sync_after(disk, slot)
 }
 
-/// Truncates a slot that isn't open by at most `most` bytes, down to its header. Returns whether it was longer.
+/// Truncates a slot that isn't open by at most `most` bytes, but not below its header. Returns true if it was longer.
 fn shorten<D: Disk>(disk: &mut D, slot: Slot, header: usize, most: u64) -> Result<bool, DiskFault>
     requires header { 1 < header }
     requires shut { D.honest → IsNotOpen header (slot_of (D.view disk.old).seen slot) }
@@ -169,8 +170,8 @@ fn shorten<D: Disk>(disk: &mut D, slot: Slot, header: usize, most: u64) -> Resul
     Ok(true)
 }
 
-/// Takes one step to clear a slot: closes its gate, or truncates it by at most `most` bytes, down to its header.
-/// Returns whether there was a step: none is left once the slot isn't open and is as short as its header.
+/// Takes one step to clear a slot: closes its gate, or truncates it by at most `most` bytes, but not below its header.
+/// Returns true if there was a step. None is left if the slot isn't open and isn't longer than its header.
 pub fn clear_slot<D: Disk>(
     disk: &mut D,
     slot: Slot,

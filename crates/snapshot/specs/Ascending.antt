@@ -4,12 +4,12 @@ use Rattle.snapshot.specs.declared.rows.LivePort.{LivePort}
 use Rattle.snapshot.specs.declared.rows.NamedEntry.{NamedEntry}
 use Rattle.snapshot.specs.declared.rows.Space.{Space}
 
--- ascending numbers, the first of them at least this one
+-- strictly ascending numbers, the first of them at least this one
 abbrev pub AscendsFrom : ℕ → List ℕ → Type 0
 AscendsFrom at [] = Unit {0}
 AscendsFrom at (n ∷ rest) = (at ≤ n) × AscendsFrom (n + 1) rest
 
--- the numbers of rows
+-- the number of a row
 abbrev pub name_of : NamedEntry → ℕ
 name_of row = row.name
 

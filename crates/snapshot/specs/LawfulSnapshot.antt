@@ -9,7 +9,7 @@ use Rattle.snapshot.specs.Snapshots.{ipc_snapshot_of, snapshot_of}
 use Rattle.snapshot.specs.declared.rows.IpcSnapshot.{IpcSnapshot}
 use Rattle.snapshot.specs.declared.rows.Snapshot.{Snapshot}
 
--- A lawful IPC snapshot is that of a lawful and acyclic IPC state, whose queues are short enough to count.
+-- A lawful IPC snapshot is the snapshot of a lawful and acyclic IPC state whose queues are short enough to count.
 pub record IsLawfulIpc (snapshot : IpcSnapshot) : Type 0 where
   pub state : Ipc
   pub same : snapshot ≡ ipc_snapshot_of state
@@ -17,7 +17,7 @@ pub record IsLawfulIpc (snapshot : IpcSnapshot) : Type 0 where
   pub acyclic : Acyclic state
   pub short : ShortQueues state
 
--- A lawful snapshot is that of a lawful state.
+-- A lawful snapshot is the snapshot of a lawful state.
 pub record IsLawfulSnapshot (snapshot : Snapshot) : Type 0 where
   pub state : State
   pub same : snapshot ≡ snapshot_of state

@@ -43,7 +43,7 @@ is_less k n less =
     tie false e = e
 
 module _ {X : Type 0} where
-  -- entries put into a map, one by one
+  -- entries inserted into a map, one by one
   abbrev pub put_all : List (ℕ × X) → FinMap {K = ℕ} nat_cmp X → FinMap {K = ℕ} nat_cmp X
   put_all [] m = m
   put_all (e ∷ es) m = put_all es (insert m e.0 e.1)
@@ -53,7 +53,7 @@ module _ {X : Type 0} where
   AreUnder at [] = Unit {0}
   AreUnder at (e ∷ es) = (e.0 < at) × AreUnder at es
 
-  -- a key above all others goes to the end
+  -- a key above all others is inserted at the end
   put_last : (k : ℕ) (v : X) (es : List (ℕ × X)) → AreUnder k es → put nat_cmp k v es ≡ es ++ (k, v) ∷ []
   put_last k v [] under = refl
   put_last k v (e ∷ es) under =
@@ -70,7 +70,7 @@ module _ {X : Type 0} where
   under_last at k v [] le under = (omega arith, tt)
   under_last at k v (e ∷ es) le under = (omega (arith, le, under.0), under_last at k v es le under.1)
 
-  -- ascending entries put after those that are there
+  -- ascending entries are appended to those of the map
   pub all_put : (es : List (ℕ × X)) (m : FinMap {K = ℕ} nat_cmp X) (at : ℕ) → AreUnder at (entries m)
       → AscendsFrom at (map key_of es) → entries (put_all es m) ≡ entries m ++ es
   all_put [] m at under ascends = sym (append-nil (entries m))
@@ -92,7 +92,7 @@ module _ {X : Type 0} where
       all_put es empty at (subst (AreUnder at) (sym entries_none) tt) ascends ∙ ap
       (λ (xs : List (ℕ × X)). xs ++ es) entries_none
 
-  -- what is found after a key is above it
+  -- a key found above another key is at least its successor
   pub over : (low k : ℕ) (v : X) (es : List (ℕ × X)) → T (below_all nat_cmp low es) → find nat_cmp k es ≡ Some v
       → low + 1 ≤ k
   over low k v [] below there = absurd (cc there)
@@ -109,7 +109,7 @@ module _ {X : Type 0} where
             (back_of (is_lt (nat_cmp low e.0)) (below_all nat_cmp low es) below) later
       ] refl there
 
-  -- a key of ascending entries is no less than the least
+  -- a key of ascending entries isn't below the lower bound
   found_from : (at : ℕ) (es : List (ℕ × X)) (k : ℕ) (v : X) → AscendsFrom at (map key_of es)
       → find nat_cmp k es ≡ Some v → at ≤ k
   found_from at [] k v ascends there = absurd (cc there)
@@ -139,7 +139,7 @@ module _ {X : Type 0} where
       → AscendsFrom at (map key_of (entries m))
   entries_ascend at m from = risen at (entries m) (λ k v there. from k v (get-entries m k ∙ there)) (entries_sorted m)
 
-  -- what holds of all that a map has holds of its entries, and conversely
+  -- a fact about all entries found in a map holds of its list of entries, and conversely
   all_of : (P : ℕ × X → Type 0) (es : List (ℕ × X)) → T (is_sorted nat_cmp es)
       → ((k : ℕ) (x : X) → find nat_cmp k es ≡ Some x → P (k, x)) → All P es
   all_of P [] sorted each = All-nil P
@@ -168,7 +168,7 @@ module _ {X : Type 0} where
       → get m k ≡ Some x → P (k, x)
   each_entry P m k x all there = found_in P (entries m) k x all (sym (get-entries m k) ∙ there)
 
--- rows and entries
+-- Rows and entries.
 
 abbrev pub entry_of : NamedEntry → ℕ × Entry
 entry_of row = (row.name, row.entry)
@@ -182,7 +182,7 @@ space_of row = (row.number, names_in_rows row.names)
 abbrev pub port_in_row : LivePort → ℕ × PortState
 port_in_row row = (row.serial, row.state)
 
--- The state of a snapshot's rows.
+-- The state with a snapshot's rows.
 abbrev pub state_of_rows : IpcSnapshot → Ipc
 state_of_rows snapshot =
     record {
@@ -228,7 +228,7 @@ pub record Ascends (snapshot : IpcSnapshot) : Type 0 where
   pub names : All NamesAscend snapshot.spaces
   pub ports : AscendsFrom 1 (map serial_of snapshot.ports)
 
--- Such a snapshot is that of the state of its rows.
+-- Such a snapshot is the snapshot of the state with its rows.
 pub is_of_rows : (snapshot : IpcSnapshot) → Ascends snapshot → snapshot ≡ ipc_snapshot_of (state_of_rows snapshot)
 unfolding ipc_snapshot_of
 is_of_rows snapshot ascends =
@@ -252,7 +252,7 @@ is_of_rows snapshot ascends =
         ∙ map_map port_row port_in_row snapshot.ports
         ∙ map_same_id (λ (p : LivePort). p) snapshot.ports (λ k d less. refl)
 
--- A snapshot is that of one state at most.
+-- A snapshot is of at most one state.
 pub one_state : (one other : Ipc) → ipc_snapshot_of one ≡ ipc_snapshot_of other → one ≡ other
 unfolding ipc_snapshot_of
 one_state one other same =

@@ -3,11 +3,11 @@ ghost use Rattle.snapshot.specs.Ascending.{AscendsFrom};
 
 use crate::{LivePort, NamedEntry, Space};
 
-/// A row that has a number.
+/// A row with a number.
 pub trait Numbered {
     ghost number: { Self → ℕ };
 
-    /// Its number.
+    /// Returns the row's number.
     fn number(&self) -> u64
         ensures { result ≡ number self.now };
 }
@@ -42,7 +42,7 @@ impl Numbered for LivePort {
     }
 }
 
-/// Whether the numbers of rows ascend, beginning with at least this one.
+/// Returns true if the numbers of rows ascend strictly, and the first is at least `from`.
 pub fn ascends<T: Numbered>(rows: &[T], from: u64) -> bool
     ensures { IsTrue result ↔ AscendsFrom from (map T.number rows.now) }
 {

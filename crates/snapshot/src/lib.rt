@@ -1,4 +1,4 @@
-//! A state of the machine as plain values: what an image holds and an inspector prints.
+//! A state of the machine as plain values, which images encode and inspectors print.
 #![tactic(auto)]
 
 mod ascending;

@@ -1,6 +1,6 @@
 use ipc_model::{Entry, NumberedReply, PortState, Sequence};
 
-/// A name of a space and what it stands for.
+/// A name of a space and its entry.
 #[derive(Drop)]
 pub struct NamedEntry {
     pub name: u32,
@@ -21,14 +21,14 @@ pub struct Space {
 pub struct LivePort {
     /// The port's serial number.
     pub serial: u64,
-    /// What the port has, including its queue.
+    /// The port's state, including its queue.
     pub state: PortState,
 }
 
 /// An IPC state: the spaces by their numbers, the live ports by their serials.
 #[derive(Drop)]
 pub struct IpcSnapshot {
-    /// The serial that the next port gets.
+    /// The serial of the next port.
     pub next_serial: u64,
     /// The spaces, in ascending order of numbers.
     pub spaces: Sequence<Space>,
@@ -40,6 +40,6 @@ pub struct IpcSnapshot {
 #[derive(Drop)]
 pub struct Snapshot {
     pub ipc: IpcSnapshot,
-    /// For each space, in the same order, the reply that it keeps, if it keeps one.
+    /// The reply that each space keeps, if any, in the order of the spaces.
     pub kept: Sequence<Option<NumberedReply>>,
 }

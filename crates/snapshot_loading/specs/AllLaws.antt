@@ -1,4 +1,4 @@
--- Elements looked at one by one.
+-- Predicates on lists, checked one element at a time.
 use Rattle.std.proofs.Common.{◌≡◌, ℕ, zero, suc, ◌+◌, ◌<◌, ◌≤◌, ◌↔◌, true, All, List, [], ◌∷◌, get_or, length, take, refl, ap, subst, arith}
 use Rattle.std.specs.Prelude.{IsTrue}
 use Rattle.std.proofs.lemmas.List.Elements.{All-more}

@@ -1,4 +1,4 @@
--- No ports carry one another in a circle exactly where hops doubled fifteen times lead nowhere.
+-- No ports carry one another in a cycle exactly if hops that are doubled fifteen times lead nowhere.
 use Rattle.std.proofs.Common.{◌≡◌, ℕ, zero, suc, ◌+◌, ◌<◌, ◌≤◌, nat_lt, Bool, true, false, cond, ◌||◌, List, [], ◌∷◌, Option, None, Some, option_and_then, option_map, refl, sym, ◌∙◌, ap, subst, arith}
 use Rattle.std.specs.Prelude.{find}
 use Rattle.std.specs.List.{list_all, list_any}
@@ -29,7 +29,7 @@ use Rattle.snapshot_loading.specs.Holding.{lawful_tight}
 use Rattle.snapshot_loading.specs.Linked.{looks_of, is_linked_message, is_linked_port, is_live_place, is_live_target, replies_well, travels_well}
 use Rattle.snapshot_loading.specs.LinkLaws.{AreTight, first_holds, second_holds}
 
--- Ranks that each hop raises, all below a bound.
+-- Ranks that each hop increases, all below a bound.
 pub record Ranked (f : ℕ → Option ℕ) : Type 0 where
   pub rank : ℕ → ℕ
   pub bound : ℕ
@@ -40,7 +40,7 @@ nowhere : (f : ℕ → Option ℕ) → ((q : ℕ) → f q ≡ None) → Ranked f
 nowhere f none =
     record { rank = λ q. 0; bound = 1; below = λ q. omega arith; up = λ q t is. absurd (cc (sym is ∙ none q)) }
 
--- the rank of the next port, to be added to a port's own; at the last port of a climb, the bound
+-- the rank of the next port, or the bound at the last port of a climb
 above_or : ℕ → (ℕ → ℕ) → Option ℕ → ℕ
 above_or bound rank None = bound
 above_or bound rank (Some t) = rank t
@@ -69,7 +69,7 @@ lowered : (k : ℕ) (f : ℕ → Option ℕ) → Ranked (doubled k f) → Ranked
 lowered zero f ranked = ranked
 lowered (suc k) f ranked = lowered k f (halved (doubled k f) ranked)
 
--- how many ports rank above one; a hop leaves fewer
+-- The number of ports with a higher rank, which each hop decreases.
 
 counts : ℕ → ℕ → ℕ
 counts r n = cond (nat_lt r n) 1 0
@@ -124,7 +124,7 @@ two zero = 1
 two (suc k) = two k + two k
 
 module _ (state : Ipc) where
-  -- the carrier of a port carries it
+  -- a port is carried by its carrier
   carrier_carries : (inner outer : ℕ) → carrier_of state inner ≡ Some outer → Carries state outer inner
   carrier_carries inner outer is =
       elim (find (λ e. carries inner e.1) (entries state.ports))
@@ -175,7 +175,7 @@ module _ (state : Ipc) where
         many : two 15 ≡ 32768
         many = refl
 
-  -- a carried port lives
+  -- a carried port is live
 
   any_all : {A : Type 0} (p q : A → Bool) (xs : List A) → list_any p xs ≡ true → list_all q xs ≡ true → (x : A)
       × (p x ≡ true) × (q x ≡ true)
@@ -211,7 +211,7 @@ module _ (state : Ipc) where
       (second_holds (replies_well (looks_of state) message.0.reply) _ message.2) in
       right_lives inner right.0 right.1 right.2
 
-  -- If hops lead nowhere in the end, no ports carry one another in a circle.
+  -- If hops lead nowhere in the end, no ports carry one another in a cycle.
   pub hops_ground : Lawful state → (k : ℕ) → ((q : ℕ) → doubled k (up_of state) q ≡ None) → Acyclic state
   hops_ground lawful k none =
       let ranked : Ranked (up_of state) = lowered k (up_of state) (nowhere (doubled k (up_of state)) none) in (

@@ -1,4 +1,4 @@
--- Hops from ports to the ports that carry their receive rights, each twice as long as before.
+-- Hops from ports to the ports that carry their receive rights, doubled repeatedly.
 use Rattle.std.specs.Prelude.{◌≡◌, ℕ, zero, suc, cond, Option, None, Some, option_and_then}
 use Rattle.std.specs.Ordering.{nat_cmp}
 use Rattle.std.specs.FinMap.{FinMap, insert}
@@ -12,16 +12,16 @@ up_of state q = cond (lives state q) (carrier_of state q) None
 abbrev pub twice : (ℕ → Option ℕ) → ℕ → Option ℕ
 twice f q = option_and_then f (f q)
 
--- doubled this often
+-- hops that are doubled k times
 abbrev pub doubled : ℕ → (ℕ → Option ℕ) → ℕ → Option ℕ
 doubled zero f = f
 doubled (suc k) f = twice (doubled k f)
 
--- doubled often enough, they lead nowhere
+-- hops lead nowhere if they are doubled often enough
 abbrev pub EndsSomewhere : Ipc → Type 0
 EndsSomewhere state = (k : ℕ) × ((q : ℕ) → doubled k (up_of state) q ≡ None)
 
--- hops with one more, if there is one
+-- the hops with one more, if there is one
 abbrev pub with_hop : FinMap {K = ℕ} nat_cmp ℕ → ℕ → Option ℕ → FinMap {K = ℕ} nat_cmp ℕ
 with_hop up serial None = up
 with_hop up serial (Some to) = insert up serial to

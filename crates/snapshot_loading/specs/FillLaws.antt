@@ -1,4 +1,4 @@
--- A state that is filled from the rows of a snapshot is that of the snapshot.
+-- A state filled from the rows of a snapshot is the state of the snapshot.
 use Rattle.std.proofs.Common.{◌≡◌, ℕ, ◌+◌, ◌-◌, ◌<◌, ◌≤◌, ◌^◌, ◌==◌, Bool, true, false, cond, All, List, [], ◌∷◌, ◌++◌, length, map, Option, None, Some, is_some, option_map, option_and_then, append_assoc, append-nil, refl, sym, ◌∙◌, ap, subst, arith}
 use Rattle.std.specs.List.{list_all}
 use Rattle.std.specs.Cmp.{nat_cmp_total}
@@ -44,7 +44,7 @@ use Rattle.snapshot_loading.specs.Shaped.{IsShapedName, IsShapedPort, IsShapedSp
 abbrev pub emptied_in_row : LivePort → ℕ × PortState
 emptied_in_row row = (row.serial, emptied row.state)
 
--- what has to hold of a state before ports are opened in it
+-- the precondition of adding the ports of these rows
 pub record MayOpen (rows : List LivePort) (state : Ipc) : Type 0 where
   pub few : len state.ports + length rows ≤ MAX_PORTS
   pub below : (k : ℕ) (port : PortState) → get state.ports k ≡ Some port → k < state.next
@@ -97,7 +97,7 @@ opened_next next (row ∷ rows) state le all =
     opened_next next rows (opened row state) (omega (arith, (All-head (IsShapedPort next) row rows all).below))
     (All-tail (IsShapedPort next) row rows all)
 
--- a new port, which gets its numbers
+-- a new port that gets its numbers
 pub opened_is : (state : Ipc) (row : LivePort)
     → with_port (record state { ports = insert state.ports row.serial new_port; next = row.serial + 1 }) row.serial
     (with_numbers (numbers_of row.state)) ≡ opened row state
@@ -148,7 +148,7 @@ spaced_all_is (row ∷ rows) state =
     ap (spaced_all rows) (spaced_is row state)
     ∙ spaced_all_is rows (with_names state row.number (names_in_rows row.names))
 
--- what has to hold of a state before names are put into a space
+-- the precondition of adding these names to a space
 pub record MayName (space : ℕ) (rows : List NamedEntry) (state : Ipc) : Type 0 where
   pub names : Names
   pub there : get state.spaces space ≡ Some names
@@ -177,7 +177,7 @@ may_name_next space row rows state may =
     one_more true n = omega arith
     one_more false n = omega arith
 
--- what has to hold of a state before spaces are opened in it
+-- the precondition of adding the spaces of these rows
 pub record MaySpace (rows : List Space) (state : Ipc) : Type 0 where
   pub from : ℕ
   pub below : (k : ℕ) (names : Names) → get state.spaces k ≡ Some names → k < from
@@ -251,7 +251,7 @@ queued_is serial (message ∷ messages) state port there =
     more : PortState
     more = record port { messages = port.messages ++ message ∷ [] }
 
--- an entry put in the place of another
+-- an entry that replaces another
 same_cmp : (k : ℕ) → nat_cmp k k ≡ Equal
 same_cmp k =
     ap (λ (b : Bool). cond b Less (cond (k == k) Equal Greater)) (le-ltb k k (omega arith))
@@ -301,7 +301,7 @@ filled_is (row ∷ rows) state done at is under ascends =
       rest.2 ∙ append_assoc done ((row.serial, row.state) ∷ []) (map port_in_row rows),
     )
 
--- The state of rows with no messages yet.
+-- The state of rows without messages.
 abbrev pub skeleton : IpcSnapshot → Ipc
 skeleton snapshot =
     record {
@@ -330,7 +330,7 @@ module _ (snapshot : IpcSnapshot) (ascends : AscendsFrom 1 (map serial_of snapsh
       entries_of (map emptied_in_row snapshot.ports) 1
       (subst (AscendsFrom 1) (sym (map_map key_of emptied_in_row snapshot.ports)) ascends)
 
-  -- with their messages the rows' ports are whole
+  -- the rows' ports are complete with their messages
   pub whole_is : filled_all snapshot.ports (skeleton snapshot) ≡ state_of_rows snapshot
   whole_is =
       let filled = filled_is snapshot.ports (skeleton snapshot) [] 1 bare tt ascends in
@@ -348,7 +348,7 @@ module _ (snapshot : IpcSnapshot) (ascends : AscendsFrom 1 (map serial_of snapsh
       (subst (AscendsFrom 1) (sym (map_map key_of port_in_row snapshot.ports)) ascends))
       ∙ map_map (λ e. (e.0, emptied e.1)) port_in_row snapshot.ports))
 
-  -- and look the same to others
+  -- messages don't affect the looks of the state
   pub looks_same : looks_of (skeleton snapshot) ≡ looks_of (state_of_rows snapshot)
   looks_same =
       λ i. record { lives = λ s. living s i; set_of = λ s. sets s i; names = names_in (state_of_rows snapshot) }
@@ -450,7 +450,7 @@ may_name_first row state shape = record {
     few Set lawful = tt
     few (Dead references) lawful = lawful.1
 
--- a port is opened by three changes
+-- a port is added by three changes
 pub opened_by : (old first second third : Running) (row : LivePort) (numbers : PortNumbers)
     → numbers ≡ numbers_of row.state → first ≡ record old { current = record old.current { next = row.serial } }
     → second ≡ record first {

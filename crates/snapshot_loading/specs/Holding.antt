@@ -1,4 +1,4 @@
--- Where the one receive right of a port is, and the set that the port is in.
+-- The place of a port's receive right, and the set that contains the port.
 use Rattle.std.proofs.Common.{◌≡◌, ◌≢◌, inl, inr, ℕ, zero, suc, ◌+◌, ◌≤◌, ◌==◌, Bool, true, false, cond, ◌&&◌, ◌||◌, not, if◌then◌else◌, All, List, [], Option, None, Some, is_some, option_and_then, refl, sym, ◌∙◌, ap, subst, arith}
 use Rattle.std.specs.List.{list_all}
 use Rattle.std.specs.FinMap.{entries, entries_sorted, get, get-entries}
@@ -29,7 +29,7 @@ use Rattle.ipc_model.specs.state.Ipc.{Names, Ipc, is_number, lives, port_held, r
 use Rattle.snapshot_loading.specs.Linked.{Looks, looks_of, has_set, is_in_no_set, is_linked_message, is_linked_port, is_live_place, is_live_target, is_set, replies_well, stands_well, travels_well}
 use Rattle.snapshot_loading.specs.LinkLaws.{AreWell, AreTight, both_hold, first_holds, second_holds, names_there, one_part, two_parts, some_entry, some_of, true_of, isnt, is_not, found_any, parts_true}
 
--- what weighs as a receive right of a port is one
+-- a right with the weight of a receive right is one
 
 one_of : (what : RightKind) (serial other : ℕ) → 1 ≤ receive_of serial what other → (same_kind what kind.Receive ≡ true)
     × (other ≡ serial)
@@ -112,7 +112,7 @@ no_reply serial (Some right) lawful =
 both_all : {A : Type 0} (P Q : A → Type 0) (xs : List A) → All P xs → All Q xs → All (λ x. P x × Q x) xs
 both_all P Q xs p q = λ k d less. (p k d less, q k d less)
 
--- a port whose receive right travels is in no set
+-- a port whose receive right is in a message is in no set
 travelling : (looks : Looks) (serial : ℕ) (right : CarriedRight) → travels_well looks right ≡ true
     → 1 ≤ carried_weigh (receive_of serial) right → is_some (looks.set_of serial) ≡ false
 travelling looks serial right travels weighs =
@@ -170,7 +170,7 @@ module _ (state : Ipc) where
   unfolding state_weigh
   parted w = refl
 
-  -- a held port's set is one of the space
+  -- the set of a held port is in the space
   alongside : (space name serial set : ℕ) (entry : Entry) → stands_well seen space name entry ≡ true
       → received_port entry ≡ Some serial → seen.set_of serial ≡ Some set
       → is_set (get (names_in state space) set) ≡ true
@@ -222,7 +222,7 @@ module _ (state : Ipc) where
             )
       ] refl
 
-  -- Conversely: the rows of a lawful state are linked.
+  -- Conversely, the rows of a lawful state are linked.
 
   module _ (lawful : Lawful state) where
     live_of : (q : ℕ) → 1 ≤ state_weigh (any_of q) state → lives state q ≡ true
@@ -254,7 +254,7 @@ module _ (state : Ipc) where
           parted (receive_of serial),
         )
 
-    -- a port that is received under a name, with its set
+    -- a port whose receive right a name holds, and its set
     set_of_received : (space name serial : ℕ) (names : Names) (entry : Entry) → get state.spaces space ≡ Some names
         → get names name ≡ Some entry → received_port entry ≡ Some serial → lives state serial ≡ true
         → has_set seen space (seen.set_of serial) ≡ true
@@ -352,7 +352,7 @@ module _ (state : Ipc) where
     pub lawful_well : AreWell state
     lawful_well space name names entry there at = stands space name names entry there at
 
-    -- a carried receive right's port is in no set, or its space would hold the right too
+    -- the port of a carried receive right is in no set, since otherwise its space would hold the right too
     in_no_set : (what : RightKind) (serial : ℕ) → ((w : Weight) → w what serial ≤ total (port_weigh w) state.ports)
         → (not (same_kind what kind.Receive) || not (is_some (seen.set_of serial))) ≡ true
     in_no_set kind.Send serial part = refl

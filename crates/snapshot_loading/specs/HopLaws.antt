@@ -1,4 +1,4 @@
--- Hops gathered port by port.
+-- Hops that are collected port by port.
 use Rattle.std.proofs.Common.{◌≡◌, inl, inr, ℕ, zero, suc, ◌+◌, ◌<◌, ◌≤◌, nat_lt, Bool, true, false, cond, Option, None, Some, is_some, option_and_then, refl, sym, ◌∙◌, ap, arith}
 use Rattle.std.specs.Cmp.{nat_cmp_total}
 use Rattle.std.specs.Ordering.{nat_cmp, eq_by_cmp}
@@ -18,7 +18,7 @@ Hops = FinMap {K = ℕ} nat_cmp ℕ
 abbrev pub AreBelow : (ℕ → Option ℕ) → ℕ → Hops → Type 0
 AreBelow f at up = (q : ℕ) → get up q ≡ cond (nat_lt q at) (f q) None
 
--- only live ports hop
+-- only live ports have hops
 abbrev pub OnlyLive : Ipc → (ℕ → Option ℕ) → Type 0
 OnlyLive state f = (q : ℕ) → lives state q ≡ false → f q ≡ None
 
@@ -93,7 +93,7 @@ pub doubled_only : (state : Ipc) (k : ℕ) → OnlyLive state (doubled k (up_of 
 doubled_only state zero = up_only state
 doubled_only state (suc k) = twice_only state (doubled k (up_of state)) (doubled_only state k)
 
--- hops that lead nowhere are none
+-- an empty map has no hops
 pub nowhere_none : (up : Hops) → len up ≡ 0 → (q : ℕ) → get up q ≡ None
 nowhere_none up none q = ap (λ (m : Hops). get m q) (empty_of_len up none) ∙ get-empty nat_cmp q
 

@@ -1,4 +1,4 @@
--- Rights and the kinds that items bring.
+-- Rights, and the kinds of the items' ports.
 use Rattle.std.proofs.Common.{◌≡◌, ℕ, suc, ◌+◌, ◌<◌, Bool, true, false, ◌||◌, ◌↔◌, if◌then◌else◌, All, List, [], ◌∷◌, ◌++◌, drop, flat_map, get_or, length, map, replicate, refl, sym, ◌∙◌, ap, add-one, arith}
 use Rattle.std.specs.List.{Contains, list_any}
 use Rattle.std.proofs.Math.Seq.{drop-cons}
@@ -55,7 +55,7 @@ kinds_all item rights front beyond more port is long same =
     (λ (kinds : List RightKind). kinds ++ more)
     (kinds_is item port ∙ ap (λ (n : ℕ). replicate n (kind_of_number item.type_name)) (sym long)))
 
--- an element that is read, and those after it
+-- an element of a list, and the list after it
 pub read_cons : {A : Type 0} (xs : List A) (i : ℕ) (x : A) → i < length xs → x ≡ get_or xs i x
     → drop i xs ≡ x ∷ drop (i + 1) xs
 read_cons xs i x less is = drop-cons xs i x less ∙ (λ t. sym is t ∷ drop (sym (add-one i) t) xs)
@@ -71,7 +71,7 @@ kinds_step items others item kinds beyond is begin same = (
       (ap (flat_map kinds_of_item) is))),
 )
 
--- what holds of items holds of their values, and conversely
+-- a fact about all items is a fact about their values, and conversely
 pub values_all : (items : List declared.Item)
     → All (λ (item : declared.Item). IsStoredItem (item_value item)) items ↔ All IsStoredItem (map item_value items)
 values_all items = (All-map IsStoredItem item_value items, back items)
@@ -84,7 +84,7 @@ values_all items = (All-map IsStoredItem item_value items, back items)
         (All-head IsStoredItem (item_value item) (map item_value items) all)
         (back items (All-tail IsStoredItem (item_value item) (map item_value items) all))
 
--- an item of ports is among them
+-- some item is a port item
 pub port_among : (items : List Item) → list_any is_port_item items ≡ true → (item : Item) × Contains items item
     × (is_port_item item ≡ true)
 port_among [] any = absurd (cc any)

@@ -1,5 +1,5 @@
--- Rows of a lawful shape that are linked, and in which each port has one receive right, are those of a lawful state,
--- and no other rows are.
+-- Rows are those of a lawful state exactly if they have a lawful shape, are linked, and have one receive right of each
+-- port.
 use Rattle.std.proofs.Common.{◌≡◌, inl, ℕ, ◌<◌, ◌^◌, Bool, true, false, cond, T, All, List, [], ◌∷◌, length, map, Some, is_some, refl, sym, ◌∙◌, ap, subst, arith}
 use Rattle.std.specs.Prelude.{IsPermutation}
 use Rattle.std.specs.List.Sorted.{IsNonDecreasing}
@@ -139,11 +139,11 @@ module _ (state : Ipc) (snapshot : IpcSnapshot) (same : snapshot ≡ ipc_snapsho
       → All LawfulMessage port.messages
   lawful_messages lawful serial port there = (lawful.ports serial port there).2.messages
 
-  -- they are linked
+  -- the rows of a lawful state are linked
   pub linked : Lawful state → is_linked (looks_of state) snapshot ≡ true
   linked lawful = well_all state snapshot same (lawful_well state lawful) (lawful_tight state lawful)
 
-  -- and the ports of its receive rights, sorted, are the live ports
+  -- the ports of its receive rights, sorted, are the live ports
   pub received : Lawful state → (sorted : List ℕ) → IsPermutation (receivers snapshot) sorted → IsNonDecreasing sorted
       → sorted ≡ map serial_of snapshot.ports
   received lawful sorted moved up =
@@ -224,7 +224,7 @@ module _ (state : Ipc) (snapshot : IpcSnapshot) (same : snapshot ≡ ipc_snapsho
     pub short_state : ShortQueues state
     short_state serial port there = (port_at serial port there).short
 
-    -- Linked rows with one receive right of each port are of a lawful state.
+    -- Linked rows with one receive right of each port are those of a lawful state.
     pub lawful_state : state.next < 2 ^ 64 → is_linked (looks_of state) snapshot ≡ true → (sorted : List ℕ)
         → IsPermutation (receivers snapshot) sorted → sorted ≡ map serial_of snapshot.ports → Lawful state
     lawful_state fits links sorted moved is = alone state (record {
@@ -290,7 +290,7 @@ module _ (state : Ipc) (snapshot : IpcSnapshot) (same : snapshot ≡ ipc_snapsho
         first : (names : Names) × (find nat_cmp FIRST_SPACE (entries state.spaces) ≡ Some names)
         first = first_there snapshot.spaces (entries state.spaces) spaces_are shape.first
 
--- A lawful snapshot is that of one state, which is lawful and acyclic, with short queues.
+-- A lawful snapshot is of one state, which is lawful and acyclic, with short queues.
 pub lawful_one : (state : Ipc) (snapshot : IpcSnapshot) → snapshot ≡ ipc_snapshot_of state → IsLawfulIpc snapshot
     → Lawful state × Acyclic state × ShortQueues state
 lawful_one state snapshot same lawful =

@@ -1,5 +1,5 @@
--- Linked rows are those of a state without dangling rights, in which ports stand under one name and are in sets of the
--- space that holds their receive right; and the rows of a lawful state are linked.
+-- Linked rows are those of a state in which each right is to a live port, each port has one name in a space, and sets
+-- are in the space that holds their members' receive rights. Conversely, the rows of a lawful state are linked.
 use Rattle.std.proofs.Common.{◌≡◌, ◌≢◌, inl, inr, ℕ, zero, suc, ◌+◌, ◌≤◌, ◌==◌, Bool, true, false, cond, T, ◌&&◌, ◌||◌, not, if◌then◌else◌, All, List, [], ◌∷◌, map, Option, None, Some, is_some, refl, sym, ◌∙◌, ap, subst, arith}
 use Rattle.std.specs.List.{list_all, list_any}
 use Rattle.std.specs.Ordering.{nat_cmp, eq_by_cmp}
@@ -31,7 +31,7 @@ use Rattle.snapshot.specs.declared.rows.IpcSnapshot.{IpcSnapshot}
 use Rattle.snapshot_loading.specs.Linked.{Looks, looks_of, is_linked, is_linked_message, is_linked_name, is_linked_port, is_linked_row, is_linked_space, is_live_place, is_live_target, replies_well, stands_well, travels_well}
 use Rattle.snapshot.specs.Rows.{named_row, port_row, space_row}
 
--- booleans
+-- Booleans.
 
 pub first_holds : (a b : Bool) → (a && b) ≡ true → a ≡ true
 first_holds true b e = refl
@@ -53,7 +53,7 @@ pub is_not : (b : Bool) → b ≡ false → not b ≡ true
 is_not true e = absurd (cc e)
 is_not false e = refl
 
--- lists and maps
+-- Lists and maps.
 
 all_mapped : {A B : Type 0} (p : B → Bool) (f : A → B) (xs : List A)
     → list_all p (map f xs) ≡ list_all (λ x. p (f x)) xs
@@ -75,7 +75,7 @@ module _ {X : Type 0} where
         | false ↦ λ (_ : _) (later : _). found_true p es k x (second_holds (p e) (list_all p es) all) later
       ] refl there
 
-  -- what all entries pass, each passes, and conversely
+  -- all entries pass a test exactly if each does
   pub each_true : (p : ℕ × X → Bool) (m : FinMap {K = ℕ} nat_cmp X) (k : ℕ) (x : X) → list_all p (entries m) ≡ true
       → get m k ≡ Some x → p (k, x) ≡ true
   each_true p m k x all there = found_true p (entries m) k x all (sym (get-entries m k) ∙ there)
@@ -94,7 +94,7 @@ module _ {X : Type 0} where
       → ((k : ℕ) (x : X) → get m k ≡ Some x → p (k, x) ≡ true) → list_all p (entries m) ≡ true
   all_true p m each = all_found p (entries m) (entries_sorted m) (λ k x there. each k x (get-entries m k ∙ there))
 
-  -- an entry that passes a test is found, and what is found passes it
+  -- a search finds an entry that passes the test, if there is one
   any_found : (p : ℕ × X → Bool) (es : List (ℕ × X)) (k : ℕ) (x : X) → find nat_cmp k es ≡ Some x → p (k, x) ≡ true
       → list_any p es ≡ true
   any_found p [] k x there passes = absurd (cc there)
@@ -139,7 +139,7 @@ module _ {X : Type 0} where
             )
       ] refl any
 
-  -- a sum that isn't 0 has an entry that isn't
+  -- a positive sum has a positive part
   some_found : (f : ℕ → X → ℕ) (es : List (ℕ × X)) → T (is_sorted nat_cmp es) → 1 ≤ weigh (λ e. f e.0 e.1) es → (k : ℕ)
       × (x : X) × (find nat_cmp k es ≡ Some x) × (1 ≤ f k x)
   some_found f [] sorted some = absurd (omega (arith, some))
@@ -170,7 +170,7 @@ module _ {X : Type 0} where
       let found = some_found f (entries m) (entries_sorted m) some in
       (found.0, found.1, get-entries m found.0 ∙ found.2, found.3)
 
-  -- an entry's part of a sum, and the parts of two
+  -- the part of one entry in a sum, and the parts of two
   pub one_part : (f : ℕ → X → ℕ) (m : FinMap {K = ℕ} nat_cmp X) (k : ℕ) (x : X) → get m k ≡ Some x → f k x ≤ total f m
   one_part f m k x there =
       let taken : total f (remove m k) + f k x ≡ total f m =
@@ -186,7 +186,7 @@ module _ {X : Type 0} where
       one_part f (remove m k) q y (get-left m k q (λ same. apart (sym same)) ∙ there) in
       omega (arith, taken, other)
 
--- an element of a sum that isn't 0
+-- a positive sum has a positive element
 pub some_of : {A : Type 0} (f : A → ℕ) (P : A → Type 0) (xs : List A) → All P xs → 1 ≤ weigh f xs → (x : A) × (1 ≤ f x)
     × P x
 some_of f P [] all some = absurd (omega (arith, some))
@@ -211,7 +211,7 @@ none_of f p (x ∷ xs) none all =
       none_of f p xs none (second_holds (p x) (list_all p xs) all),
     )
 
--- what holds of each part of a list that weighs no more than the whole
+-- a fact about each part of a list that weighs no more than the whole
 pub parts_true : {A : Type 0} (f : Weight → A → ℕ) (p : A → Bool) (bound : Weight → ℕ) (xs : List A)
     → ((x : A) → ((w : Weight) → f w x ≤ bound w) → p x ≡ true) → ((w : Weight) → weigh (f w) xs ≤ bound w)
     → list_all p xs ≡ true
@@ -220,9 +220,9 @@ parts_true f p bound (x ∷ xs) each within =
     both_hold (p x) (list_all p xs) (each x (λ w. omega (arith, within w)))
     (parts_true f p bound xs each (λ w. omega (arith, within w)))
 
--- the rows of a state
+-- The rows of a state.
 
--- what stands under each name, and what each port keeps, is linked
+-- each entry, and the state of each port, is linked
 abbrev pub AreWell : Ipc → Type 0
 AreWell state =
     (space name : ℕ) (names : Names) (entry : Entry) → get state.spaces space ≡ Some names → get names name ≡ Some entry
@@ -275,7 +275,7 @@ module _ (state : Ipc) (snapshot : IpcSnapshot) (same : snapshot ≡ ipc_snapsho
       ∙ all_true (λ (e : ℕ × PortState). is_linked_row looks (port_row e)) state.ports
       (λ serial port there. tight serial port there))
 
--- Linked rows: no right dangles.
+-- Linked rows: each right is to a live port.
 
 module _ (state : Ipc) where
   abbrev seen : Looks
@@ -366,7 +366,7 @@ module _ (state : Ipc) where
           (λ queue port there. port_blind queue port (ap is_some there) (tight queue port there)),
     )
 
-  -- A port stands under one name.
+  -- A port has one name in a space.
   pub names_there : (space : ℕ) (names : Names) → get state.spaces space ≡ Some names → names_in state space ≡ names
   names_there space names there =
       ap (λ (o : Option Names). elim o as (λ _. Names) [ None ↦ finmap.empty | Some n ↦ n ]) there

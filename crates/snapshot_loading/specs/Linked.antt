@@ -1,5 +1,5 @@
--- What names and queues say of other ports and names: each right is to a live port, a port stands under one name of a
--- space, and is in a set of the space that holds its receive right.
+-- The references of names and queues to ports and names: each right is to a live port, a port has one name in a space,
+-- and is in a set of the space that holds its receive right.
 use Rattle.std.specs.Prelude.{ℕ, Bool, true, false, ◌&&◌, ◌||◌, not, Option, None, Some, is_some, option_and_then}
 use Rattle.std.specs.List.{list_all}
 use Rattle.std.specs.FinMap as finmap
@@ -20,7 +20,7 @@ use Rattle.snapshot.specs.declared.rows.NamedEntry.{NamedEntry}
 use Rattle.snapshot.specs.declared.rows.IpcSnapshot.{IpcSnapshot}
 use Rattle.snapshot.specs.declared.rows.Space.{Space}
 
--- what rows are compared with: which ports live, their sets, and the names of each space
+-- the facts about a state against which rows are checked: the live ports, their sets, and the names of each space
 pub record Looks : Type 0 where
   pub lives : ℕ → Bool
   pub set_of : ℕ → Option ℕ
@@ -46,12 +46,12 @@ is_set (Some (SendOnce port target)) = false
 is_set (Some Set) = true
 is_set (Some (Dead references)) = false
 
--- a set of this name, if one is named, is in the space
+-- the space contains the set with this name, or no set is named
 abbrev pub has_set : Looks → ℕ → Option ℕ → Bool
 has_set looks space None = true
 has_set looks space (Some set) = is_set (finmap.get (looks.names space) set)
 
--- what stands under a name of a space
+-- an entry of a space is linked
 abbrev pub stands_well : Looks → ℕ → ℕ → Entry → Bool
 stands_well looks space name (Port rights) =
     looks.lives rights.port && (is_live_target looks rights.dead_name_target
@@ -61,13 +61,13 @@ stands_well looks space name (SendOnce port target) = looks.lives port && is_liv
 stands_well looks space name Set = true
 stands_well looks space name (Dead references) = true
 
--- a port in a message
+-- a port in a message is live
 abbrev pub is_live_place : Looks → PortInMessage → Bool
 is_live_place looks in_message.Null = true
 is_live_place looks in_message.Dead = true
 is_live_place looks (in_message.Live serial) = looks.lives serial
 
--- a carried receive right's port is in no set
+-- the port of a carried receive right is in no set
 abbrev pub is_in_no_set : Looks → RightKind → PortInMessage → Bool
 is_in_no_set looks what in_message.Null = true
 is_in_no_set looks what in_message.Dead = true

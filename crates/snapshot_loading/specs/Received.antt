@@ -1,4 +1,4 @@
--- Whether the rows have one receive right for each port.
+-- The test that the rows have one receive right of each port.
 use Rattle.std.specs.Prelude.{◌≡◌, List, ℕ, map, IsPermutation}
 use Rattle.std.specs.List.Sorted.{IsNonDecreasing}
 use Rattle.snapshot.specs.declared.rows.IpcSnapshot.{IpcSnapshot}

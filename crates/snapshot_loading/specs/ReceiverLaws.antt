@@ -1,4 +1,4 @@
--- Each port has one receive right exactly where the receive rights' ports, sorted, are the live ports.
+-- Each port has one receive right exactly if the ports of the receive rights, sorted, are the live ports.
 use Rattle.std.proofs.Common.{◌≡◌, ◌≢◌, inl, inr, ℕ, suc, ◌+◌, ◌<◌, ◌≤◌, ◌==◌, nat_lt, Bool, true, false, cond, if◌then◌else◌, All, List, [], ◌∷◌, length, get_or, map, flat_map, Option, None, Some, is_some, sum_by, refl, sym, ◌∙◌, ap, arith}
 use Rattle.std.specs.Prelude.{IsPermutation}
 use Rattle.std.specs.List.Sorted.{IsNonDecreasing}
@@ -33,7 +33,7 @@ use Rattle.snapshot_loading.specs.Holding.{no_receive, no_reply, no_target, unle
 use Rattle.snapshot_loading.specs.Receivers.{received_as, received_at, received_by, received_in, received_under, received_with, receivers}
 use Rattle.snapshot.specs.Rows.{all_entries, named_row, port_row, serial_of, space_row}
 
--- 1 for one number, 0 for others
+-- 1 for this number, 0 for others
 abbrev pub is_one : ℕ → ℕ → ℕ
 is_one serial n = cond (n == serial) 1 0
 
@@ -139,7 +139,7 @@ receivers_weigh state snapshot same lawful s =
         (λ e all. port_receives s (port_row e) all)
         (all_entries (λ (e : ℕ × PortState). All LawfulMessage e.1.messages) state.ports lawful)
 
--- A number is counted once among the keys of a map that has it.
+-- A key of a map is counted once among its keys.
 pub keys_weigh : (state : Ipc) (s : ℕ)
     → weigh (is_one s) (map serial_of (map port_row (entries state.ports))) ≡ cond (lives state s) 1 0
 keys_weigh state s =
@@ -162,7 +162,7 @@ keys_weigh state s =
     here None = refl
     here (Some port) = ap {B = ℕ} (λ (b : Bool). cond b 1 0) (eq-eqb s s refl)
 
--- sorted lists
+-- Sorted lists.
 
 abbrev pub AreFrom : ℕ → List ℕ → Type 0
 AreFrom at [] = Unit {0}
@@ -210,7 +210,7 @@ none_below s at (x ∷ xs) less from =
       none_below s at xs less from.1,
     )
 
--- ascending lists that have each number equally often are the same
+-- ascending lists with the same number of each element are equal
 pub same_climbing : (xs ys : List ℕ) → Climbs xs → Climbs ys → ((s : ℕ) → weigh (is_one s) xs ≡ weigh (is_one s) ys)
     → xs ≡ ys
 same_climbing [] [] up also same = refl
@@ -235,7 +235,7 @@ same_climbing (x ∷ xs) (y ∷ ys) up also same = elim (number_decided x y) as 
               λ (e : _). second (omega (arith, ltb-false a b e, apart))
         ] refl
 
--- sums of reordered lists
+-- Sums of reordered lists.
 weigh_sum : (f : ℕ → ℕ) (xs : List ℕ) → weigh f xs ≡ sum_by f xs
 weigh_sum f [] = refl
 weigh_sum f (x ∷ xs) = ap (λ (n : ℕ). f x + n) (weigh_sum f xs) ∙ sym (sum_by-cons f x xs)

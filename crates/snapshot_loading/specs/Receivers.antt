@@ -12,7 +12,7 @@ use Rattle.snapshot.specs.declared.rows.NamedEntry.{NamedEntry}
 use Rattle.snapshot.specs.declared.rows.IpcSnapshot.{IpcSnapshot}
 use Rattle.snapshot.specs.declared.rows.Space.{Space}
 
--- the port whose receive right stands under a name
+-- the port whose receive right a name holds
 abbrev pub received_under : NamedEntry → List ℕ
 received_under row = elim (received_port row.entry) as (λ _. List ℕ) [ None ↦ [] | Some serial ↦ serial ∷ [] ]
 
@@ -29,7 +29,7 @@ received_as kind.Receive port = received_to port
 received_as kind.Send port = []
 received_as kind.SendOnce port = []
 
--- the port whose receive right a carried right is
+-- the port of a carried right, if it is a receive right
 abbrev pub received_by : CarriedRight → List ℕ
 received_by right = received_as right.kind right.port
 

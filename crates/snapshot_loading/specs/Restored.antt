@@ -1,4 +1,4 @@
--- What the tests of a snapshot's rows say of the state that they stand for.
+-- The tests of a snapshot's rows, and the state that the rows describe.
 use Rattle.std.specs.Prelude.{IfOk, IsErrOf, IsOk, IsTrue, OnOk, Result, Ok, Err}
 use Rattle.std.specs.declared.alloc.AllocError.{AllocError}
 use Rattle.snapshot_loading.specs.declared.making.SnapshotFault.{SnapshotFault}
@@ -78,7 +78,7 @@ module _ (snapshot : IpcSnapshot) (shape : IsShaped snapshot) where
   pub short_rows : ShortQueues (state_of_rows snapshot)
   short_rows = short_state (state_of_rows snapshot) snapshot same_rows shape
 
-  -- and a state may be filled from them
+  -- a state may be filled from such rows
 
   pub may_open : (state : Ipc) → state ≡ nothing → snapshot.next_serial < 2 ^ 64 → MayOpen snapshot.ports state
   may_open state is fits = subst (MayOpen snapshot.ports) (sym is) (record {
@@ -106,7 +106,7 @@ module _ (snapshot : IpcSnapshot) (shape : IsShaped snapshot) where
     each = shape.spaces;
   }
 
--- the outcome of filling says whether the snapshot is lawful
+-- filling succeeds exactly if the snapshot is lawful, unless out of memory
 pub reported : (answer : Result Bool AllocError) (outcome : Result (Unit {0}) SnapshotFault) (L : Type 0)
     → IfOk answer (λ yes. IsTrue yes → IsOk outcome) → IfOk answer (λ yes. yes ≡ false → IsErrOf outcome NotLawful)
     → (IsOk outcome → L) → (IsErrOf outcome NotLawful → L → ⊥) → IfOk answer (λ yes. IsTrue yes ↔ L)

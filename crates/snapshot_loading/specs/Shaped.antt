@@ -1,5 +1,5 @@
--- Rows of a lawful shape, each looked at by itself: they ascend, there are no more than their bound, and what each says
--- keeps its bounds.
+-- Rows of a lawful shape, each on its own: they ascend, there are at most as many as allowed, and each is within its
+-- bounds.
 use Rattle.std.specs.Prelude.{◌≡◌, ℕ, ◌<◌, ◌≤◌, ◌^◌, All, List, [], ◌∷◌, length, map}
 use Rattle.codes.specs.declared.limits.TheConstants.{MAX_NAMES, MAX_PORTS, MAX_SPACES}
 use Rattle.codes.specs.declared.name.TheConstants.{FIRST_SPACE, MACH_PORT_DEAD}
@@ -11,7 +11,7 @@ use Rattle.snapshot.specs.declared.rows.IpcSnapshot.{IpcSnapshot}
 use Rattle.snapshot.specs.declared.rows.Space.{Space}
 use Rattle.snapshot.specs.Rows.{name_of, number_of, serial_of}
 
--- a name may be handed out, and keeps the bounds of what it stands for
+-- a name that may be given to a right, with an entry within its bounds
 abbrev pub IsShapedName : NamedEntry → Type 0
 IsShapedName row = (row.name < MACH_PORT_DEAD) × LawfulEntry row.entry
 
@@ -26,7 +26,7 @@ pub record IsShapedPort (next : ℕ) (row : LivePort) : Type 0 where
   pub lawful : LawfulPort row.state
   pub short : length row.state.messages < 2 ^ 32
 
--- there is a first space
+-- the first space has the number FIRST_SPACE
 abbrev pub BeginsFirst : List Space → Type 0
 BeginsFirst [] = ⊥
 BeginsFirst (row ∷ rows) = row.number ≡ FIRST_SPACE

@@ -1,4 +1,4 @@
-//! Whether messages in queues are lawful.
+//! Checks that queued messages are lawful.
 ghost use Rattle.std.specs.Prelude.{◌≡◌, ◌↔◌, ◌+◌, ◌++◌, ◌%◌, ◌≤◌, All, List, IfOk, IsTrue, MatchOption, length, map};
 ghost use Rattle.std.specs.List.{list_any};
 ghost use Rattle.ipc_model.specs.declared.message.RightKind.{RightKind as Kind};
@@ -16,7 +16,7 @@ use ipc_model::{CarriedRight, Message, RightKind};
 use std::alloc::{AllocError, Global};
 use type_desc::{Item, ItemFault, items};
 
-/// Whether a message may stand in a queue.
+/// Returns true if a message may be queued.
 pub(crate) fn is_lawful_message(alloc: Global, message: &Message) -> Result<bool, AllocError>
     ensures { IfOk result (λ yes. IsTrue yes ↔ LawfulMessage message.now) }
 {
@@ -33,14 +33,14 @@ pub(crate) fn is_lawful_message(alloc: Global, message: &Message) -> Result<bool
     }
 }
 
-/// Shows that a body consists of bytes. It does nothing else.
+/// Proves that a body consists of bytes. It does nothing else.
 fn are_bytes(body: &[u8])
     ensures { AreBytes body.now }
 {
     let _ = body;
 }
 
-/// Whether a right for a reply isn't a receive right.
+/// Returns true if a reply right isn't a receive right.
 fn is_lawful_reply(reply: Option<CarriedRight>) -> bool
     ensures { IsTrue result ↔ LawfulReply reply }
 {
@@ -50,7 +50,7 @@ fn is_lawful_reply(reply: Option<CarriedRight>) -> bool
     }
 }
 
-/// Whether a message may have this body: of whole words, and small enough.
+/// Returns true if a message may have a body of this length: whole words, and not too many.
 fn has_size(body: &[u8]) -> bool
     ensures { IsTrue result ↔ (((header_length + length body.now) % 4 ≡ 0)
         × (header_length + length body.now ≤ MAX_MESSAGE_SIZE)) }
@@ -59,7 +59,7 @@ fn has_size(body: &[u8]) -> bool
     body.len() % 4 == 0 && body.len() <= room
 }
 
-/// Whether these are the rights of the body's ports.
+/// Returns true if these are the rights of the body's ports.
 fn holds_ports(alloc: Global, body: &[u8], rights: &[CarriedRight]) -> Result<bool, AllocError>
     ensures { IfOk result (λ yes. IsTrue yes ↔ HoldsPorts body.now rights.now) }
 {
@@ -99,7 +99,7 @@ fn are_stored(items: &[Item<'_>]) -> bool
     items.iter().all(|item| is_stored(item))
 }
 
-/// Whether an item is as a queued message has it: a port item has a type as received, and 0 in each port's place.
+/// Returns true if an item is in its queued form: a port item has a type as received, and 0 in place of each port.
 fn is_stored(item: &Item<'_>) -> bool
     ensures { IsTrue result ↔ IsStoredItem (item_value item.now) }
 {
@@ -112,7 +112,7 @@ fn are_zeros(content: &[u8]) -> bool
     content.iter().all(|byte| *byte == 0)
 }
 
-/// Whether the rights are of the kinds that the items carry, in their order.
+/// Returns true if the rights are of the kinds of the items' ports, in their order.
 fn have_kinds(items: &[Item<'_>], rights: &[CarriedRight]) -> bool
     ensures { IsTrue result ↔ HasKinds (map item_value items.now) (map carried_kind rights.now) }
 {
@@ -126,7 +126,7 @@ fn have_kinds(items: &[Item<'_>], rights: &[CarriedRight]) -> bool
     rest.is_empty()
 }
 
-/// The rights after those that an item carries, if they begin with these.
+/// Returns the rights after those of an item, if the first ones are of the item's kind.
 fn after_kinds<'a>(item: &Item<'_>, rights: &'a [CarriedRight]) -> Option<&'a [CarriedRight]>
     ensures { MatchOption result
         ((more : List Kind) → map carried_kind rights.now ≡ kinds_of_item (item_value item.now) ++ more → ⊥)
@@ -147,7 +147,7 @@ fn after_kinds<'a>(item: &Item<'_>, rights: &'a [CarriedRight]) -> Option<&'a [C
     }
 }
 
-/// The kind of right that a port item's type gives.
+/// Returns the kind of right of a port item's type.
 fn kind_of(type_name: u16) -> RightKind
     ensures { result ≡ kind_of_number type_name }
 {

@@ -1,5 +1,5 @@
-//! Whether ports carry one another in a cycle. Each hop to the port that carries a receive right is doubled, until none
-//! is left, or more ports were passed than there may be.
+//! Checks that no ports carry one another in a cycle. The hop from each port to the one that carries its receive right
+//! is doubled, until no hop is left, or each would pass more ports than there may be.
 ghost use Rattle.std.specs.Prelude.{◌≡◌, ℕ, false, None, IfOk, OnOk, IsTrue, Option};
 ghost use Rattle.std.specs.FinMap as map;
 ghost use Rattle.ipc_model.specs.state.Ipc.{lives};
@@ -9,10 +9,10 @@ use ipc_state::IpcState;
 use number_map::NumberMap;
 use std::alloc::{AllocError, Global};
 
-/// How many times hops are doubled: after that each would pass more than `MAX_PORTS` ports.
+/// Number of times that hops are doubled. After that each hop would pass more than `MAX_PORTS` ports.
 const ROUNDS: usize = 15;
 
-/// Whether no ports carry one another in a cycle.
+/// Returns true if no ports carry one another in a cycle.
 pub(crate) fn is_acyclic(alloc: Global, state: &IpcState) -> Result<bool, AllocError>
     ensures ends { IfOk result (λ yes. IsTrue yes → EndsSomewhere state.now.current) }
     ensures circles { IfOk result (λ yes. yes ≡ false → ((q : ℕ) → doubled 15 (up_of state.now.current) q ≡ None) → ⊥) }
@@ -27,7 +27,7 @@ pub(crate) fn is_acyclic(alloc: Global, state: &IpcState) -> Result<bool, AllocE
     Ok(up.is_empty())
 }
 
-/// The hops from each live port whose receive right is in a queue to the queue's port.
+/// Returns the hops from each live port whose receive right is in a queue to the queue's port.
 fn hops(alloc: Global, state: &IpcState) -> Result<NumberMap<u64>, AllocError>
     ensures { IfOk result (λ up. (q : ℕ) → map.get up q ≡ up_of state.now.current q) }
 {
@@ -40,7 +40,7 @@ fn hops(alloc: Global, state: &IpcState) -> Result<NumberMap<u64>, AllocError>
     Ok(up)
 }
 
-/// Each pair of hops, one after the other, as one.
+/// Returns the hops of double length: each hop followed by the next one.
 fn doubled(
     alloc: Global,
     state: &IpcState,

@@ -1,4 +1,4 @@
-//! A state filled with the rows of a snapshot.
+//! Fills a state with the rows of a snapshot.
 ghost use Rattle.std.specs.Prelude.{◌≡◌, ◌∷◌, ◌-◌, ◌^◌, ◌<◌, ◌≤◌, [], true, All, None, IfOk, OnOk};
 ghost use Rattle.std.specs.FinMap as map;
 ghost use Rattle.codes.specs.declared.limits.TheConstants.{MAX_PORTS};
@@ -13,7 +13,7 @@ use ipc_state::{IpcState, PortNumbers};
 use snapshot::{LivePort, NamedEntry, Space};
 use std::alloc::{AllocError, Global};
 
-/// Makes the ports of these rows, with their numbers and without their messages.
+/// Adds the ports of these rows, with their numbers and without their messages.
 pub(crate) fn open_ports(state: &mut IpcState, rows: &[LivePort]) -> Result<(), AllocError>
     requires { MayOpen rows.now state.old.current }
     ensures { OnOk result (state.new.current ≡ opened_all rows.now state.old.current) }
@@ -52,7 +52,7 @@ fn numbers_of(port: &PortState) -> PortNumbers
     }
 }
 
-/// Makes the spaces of these rows, with their names.
+/// Adds the spaces of these rows, with their names.
 pub(crate) fn fill_spaces(state: &mut IpcState, rows: &[Space]) -> Result<(), AllocError>
     requires { MaySpace rows.now state.old.current }
     ensures { OnOk result (state.new.current ≡ spaced_all rows.now state.old.current) }
@@ -85,7 +85,7 @@ fn put_names(state: &mut IpcState, space: u32, rows: &[NamedEntry]) -> Result<()
     Ok(())
 }
 
-/// Puts the messages of these rows into the queues of their ports.
+/// Appends the messages of these rows to the queues of their ports.
 pub(crate) fn fill_queues(
     alloc: Global,
     state: &mut IpcState,

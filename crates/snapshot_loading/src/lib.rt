@@ -1,4 +1,4 @@
-//! The running state made of a snapshot, if it is the snapshot of a lawful state.
+//! Builds the running state of a snapshot, if it is the snapshot of a lawful state.
 #![tactic(auto)]
 
 mod bodies;

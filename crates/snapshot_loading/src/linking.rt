@@ -1,5 +1,5 @@
-//! Rows compared with the state that they are of: each right is to a live port, a port stands under one name of a
-//! space, and is in a set of the space that holds its receive right.
+//! Checks rows against the state that they describe: each right is to a live port, a port has one name in a space, and
+//! is in a set of the space that holds its receive right.
 ghost use Rattle.std.specs.Prelude.{◌≡◌};
 ghost use Rattle.snapshot_loading.specs.Linked.{has_set, is_in_no_set, is_linked, is_linked_message, is_linked_name, is_linked_row, is_linked_space, is_live_place, is_live_target, is_set, looks_of, replies_well, stands_well, travels_well};
 ghost use Rattle.std.specs.List.{list_all};
@@ -10,7 +10,7 @@ use ipc_model::{CarriedRight, Entry, Message, PortInMessage, PortRights, RightKi
 use ipc_state::IpcState;
 use snapshot::{IpcSnapshot, LivePort, NamedEntry, Space};
 
-/// Whether the rows are linked.
+/// Returns true if the rows are linked.
 pub(crate) fn is_linked(state: &IpcState, snapshot: &IpcSnapshot) -> bool
     ensures { result ≡ is_linked (looks_of state.now.current) snapshot.now }
 {
@@ -57,7 +57,7 @@ fn are_linked_ports(state: &IpcState, rows: &[LivePort]) -> bool
     true
 }
 
-/// Whether what stands under a name of a space is linked.
+/// Returns true if an entry of a space is linked.
 fn stands_well(state: &IpcState, space: u32, name: u32, entry: Entry) -> bool
     ensures { result ≡ stands_well (looks_of state.now.current) space name entry }
 {
@@ -92,7 +92,7 @@ fn is_live_target(state: &IpcState, target: Option<u64>) -> bool
     }
 }
 
-/// The set that a port is in.
+/// Returns the set that a port is in.
 fn set_of(state: &IpcState, serial: u64) -> Option<u32>
     ensures { result ≡ (looks_of state.now.current).set_of serial }
 {
@@ -102,7 +102,7 @@ fn set_of(state: &IpcState, serial: u64) -> Option<u32>
     }
 }
 
-/// Whether a set of this name, if one is named, is in the space.
+/// Returns true if the space contains the set with this name, or if no set is named.
 fn has_set(state: &IpcState, space: u32, set: Option<u32>) -> bool
     ensures { result ≡ has_set (looks_of state.now.current) space set }
 {
@@ -121,7 +121,7 @@ fn is_set(entry: Option<Entry>) -> bool
     }
 }
 
-/// Whether what a port has is linked.
+/// Returns true if the state of a port is linked.
 fn is_linked_port(state: &IpcState, row: &LivePort) -> bool
     ensures { result ≡ is_linked_row (looks_of state.now.current) row.now }
 {
@@ -186,7 +186,7 @@ fn is_live_place(state: &IpcState, port: PortInMessage) -> bool
     }
 }
 
-/// Whether the port of a receive right is in no set.
+/// Returns true if the port of a receive right is in no set.
 fn is_in_no_set(state: &IpcState, kind: RightKind, port: PortInMessage) -> bool
     ensures { result ≡ is_in_no_set (looks_of state.now.current) kind port }
 {

@@ -17,7 +17,7 @@ use ipc_state::IpcState;
 use snapshot::IpcSnapshot;
 use std::alloc::{AllocError, Global};
 
-/// Why a snapshot yields no state.
+/// The reason why a snapshot couldn't be loaded.
 #[derive(Clone, Copy, Debug, PartialEq, Eq)]
 pub enum SnapshotFault {
     /// It isn't the snapshot of a lawful state.
@@ -37,7 +37,7 @@ impl From<AllocError> for SnapshotFault {
     }
 }
 
-/// Whether a snapshot is that of a lawful state in which no ports carry one another in a cycle.
+/// Returns true if a snapshot is of a lawful state in which no ports carry one another in a cycle.
 pub fn lawful(alloc: Global, snapshot: &IpcSnapshot) -> Result<bool, AllocError>
     ensures { IfOk result (λ yes. IsTrue yes ↔ IsLawfulIpc snapshot.now) }
 {
@@ -47,7 +47,7 @@ pub fn lawful(alloc: Global, snapshot: &IpcSnapshot) -> Result<bool, AllocError>
     verdict(filled)
 }
 
-/// Whether what was filled in is lawful.
+/// Returns true if the state was filled, and false if the snapshot isn't lawful.
 fn verdict(outcome: Result<(), SnapshotFault>) -> Result<bool, AllocError>
     ensures yes { IfOk result (λ yes. IsTrue yes → IsOk outcome) }
     ensures no { IfOk result (λ yes. yes ≡ false → IsErrOf outcome SnapshotFault.NotLawful) }
@@ -59,7 +59,7 @@ fn verdict(outcome: Result<(), SnapshotFault>) -> Result<bool, AllocError>
     }
 }
 
-/// The running state of a snapshot, at rest.
+/// Returns the running state of a snapshot, without changes to commit or roll back.
 pub fn restore(alloc: Global, snapshot: &IpcSnapshot) -> Result<IpcState, SnapshotFault>
     ensures same { IfOk result (λ state. snapshot.now ≡ ipc_snapshot_of state.current) }
     ensures rest { IfOk result (λ state. state ≡ at_rest state.current) }
@@ -122,7 +122,7 @@ fn fill_messages(
     Ok(())
 }
 
-/// Opens the ports and spaces of rows of a lawful shape, without their messages.
+/// Adds the ports and spaces of rows of a lawful shape, without their messages.
 fn open_rows(state: &mut IpcState, snapshot: &IpcSnapshot) -> Result<(), AllocError>
     requires nothing { state.old.current ≡ nothing }
     requires shaped { IsShaped snapshot.now }
@@ -135,7 +135,7 @@ fn open_rows(state: &mut IpcState, snapshot: &IpcSnapshot) -> Result<(), AllocEr
     Ok(())
 }
 
-/// Shows that the next serial is a long word. It does nothing else.
+/// Proves that the next serial fits 64 bits. It does nothing else.
 fn serial_fits(snapshot: &IpcSnapshot)
     ensures { snapshot.now.next_serial < 2 ^ 64 }
 {

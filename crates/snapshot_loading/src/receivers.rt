@@ -8,7 +8,7 @@ use ipc_model::{CarriedRight, Entry, Message, PortInMessage, RightKind};
 use snapshot::{IpcSnapshot, LivePort, NamedEntry, Space};
 use std::alloc::{AllocError, Global};
 
-/// Whether each live port has one receive right, and no other port has any.
+/// Returns true if each live port has one receive right, and no other port has any.
 pub(crate) fn are_received_once(alloc: Global, snapshot: &IpcSnapshot) -> Result<bool, AllocError>
     ensures once { IfOk result (λ once. IsTrue once → AreSorted snapshot.now) }
     ensures others { IfOk result (λ once. once ≡ false → AreOthers snapshot.now) }
@@ -18,7 +18,7 @@ pub(crate) fn are_received_once(alloc: Global, snapshot: &IpcSnapshot) -> Result
     Ok(are_serials(received.as_slice(), snapshot.ports.as_slice()))
 }
 
-/// Whether these are the serials of the ports.
+/// Returns true if these are the serials of the ports, in order.
 fn are_serials(serials: &[u64], ports: &[LivePort]) -> bool
     ensures { IsTrue result ↔ (serials.now ≡ map serial_of ports.now) }
 {
@@ -37,7 +37,7 @@ fn are_serials(serials: &[u64], ports: &[LivePort]) -> bool
     left.is_empty()
 }
 
-/// The ports of all receive rights in the rows: those that stand under names, and those in queues.
+/// Returns the ports of all receive rights in the rows: those under names, and those in queues.
 fn receivers(alloc: Global, snapshot: &IpcSnapshot) -> Result<Vec<u64>, AllocError>
     ensures { IfOk result (λ found. found.items ≡ receivers snapshot.now) }
 {

@@ -1,4 +1,4 @@
-//! Rows of a lawful shape, each looked at by itself.
+//! Checks the lawful shape of rows, each on its own.
 ghost use Rattle.std.specs.Prelude.{◌↔◌, ◌<◌, ◌^◌, All, IfOk, IsTrue, length};
 ghost use Rattle.ipc_model.specs.state.Lawful.{LawfulEntry, LawfulMessage, LawfulPort};
 ghost use Rattle.snapshot_loading.specs.Shaped.{BeginsFirst, IsShaped, IsShapedName, IsShapedPort, IsShapedSpace};
@@ -12,7 +12,7 @@ use ipc_model::{Entry, Message, PortState};
 use snapshot::{IpcSnapshot, LivePort, NamedEntry, Space, ascends};
 use std::alloc::{AllocError, Global};
 
-/// Whether the rows are of a lawful shape.
+/// Returns true if the rows have a lawful shape.
 pub(crate) fn is_shaped(alloc: Global, snapshot: &IpcSnapshot) -> Result<bool, AllocError>
     ensures { IfOk result (λ yes. IsTrue yes ↔ IsShaped snapshot.now) }
 {
@@ -27,7 +27,7 @@ pub(crate) fn is_shaped(alloc: Global, snapshot: &IpcSnapshot) -> Result<bool, A
     are_shaped_ports(alloc, snapshot.next_serial, ports)
 }
 
-/// Whether the first space exists.
+/// Returns true if the first space exists.
 fn begins_first(spaces: &[Space]) -> bool
     ensures { IsTrue result ↔ BeginsFirst spaces.now }
 {
@@ -65,7 +65,7 @@ fn is_shaped_name(row: &NamedEntry) -> bool
     row.name < MACH_PORT_DEAD && is_lawful_entry(row.entry)
 }
 
-/// Whether a name may stand for this.
+/// Returns true if a name may have this entry.
 fn is_lawful_entry(entry: Entry) -> bool
     ensures { IsTrue result ↔ LawfulEntry entry }
 {
@@ -98,14 +98,14 @@ fn is_shaped_port(alloc: Global, next: u64, port: &LivePort) -> Result<bool, All
     is_lawful_port(alloc, &port.state)
 }
 
-/// Whether there are more messages than a word counts.
+/// Returns true if the number of messages doesn't fit a word.
 fn is_long(messages: &[Message]) -> bool
     ensures { IsTrue result ↔ (length messages.now < 2 ^ 32 → ⊥) }
 {
     messages.len() > u32::MAX as usize
 }
 
-/// Whether a live port may have this.
+/// Returns true if a live port may have this state.
 fn is_lawful_port(alloc: Global, port: &PortState) -> Result<bool, AllocError>
     ensures { IfOk result (λ yes. IsTrue yes ↔ LawfulPort port.now) }
 {

@@ -1,4 +1,4 @@
--- A name that stands for a right to a port holds its receive right or another one.
+-- A name with a right to a port holds its receive right or another one.
 use Rattle.std.proofs.Common.{◌≡◌, ℕ, ◌≤◌, ◌<◌, ◌/◌, ◌%◌, ◌^◌, min, Bool, true, false, cond, ◌||◌, nat_lt, Option, None, Some, option_and_then, refl, sym, ◌∙◌, ap, arith}
 use Rattle.std.proofs.lemmas.Bool.{ltb-false, ltb-true}
 use Rattle.ipc_model.specs.declared.entry.Entry.{Entry}
@@ -41,7 +41,7 @@ second_is : (a b : Bool) → b ≡ true → (a || b) ≡ true
 second_is true b p = refl
 second_is false b p = p
 
--- the lesser of the two first places, one for each kind of name, is the first place of either kind
+-- the lesser of the two first places, one for each kind of right, is the first place with any right
 module _ (spaces : SpaceMap) (port from : ℕ) where
   named : (q : ℕ) → is_number (at_place port_named spaces q) port
       ≡ (is_number (at_place port_shared spaces q) port || is_number (at_place received_port spaces q) port)
@@ -81,8 +81,7 @@ module _ (spaces : SpaceMap) (port from : ℕ) where
             )
       ] refl
 
-  -- the lesser of the first place at which a name stands for it and the first at which a request has it as target is
-  -- the first that has to do with it
+  -- the lesser of the first place with a right and the first place with a request is the first mention
   pub first_mention : (holder requester first : ℕ) → IsNextAt port_named spaces port from (Some holder)
       → IsNextAt request_of spaces port from (Some requester) → first ≡ min holder requester
       → IsNextMention port spaces from (Some first)

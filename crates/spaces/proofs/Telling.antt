@@ -18,7 +18,7 @@ module _ (port : ℕ) (before spaces : SpaceMap) (at : ℕ) (buried : Buried por
   apart_before q le apart =
       ap (λ (o : Option Entry). is_number (option_and_then port_named o) port) (sym (as_before q le)) ∙ apart.0
 
-  -- the notice of one place, and those of the places after it
+  -- the notice of one place, then those of the places after it
   pub one_notified : (number next : ℕ) (effects added whole : List Effect) → AreSmall before → next ≡ number + 1
       → at ≤ number → number < 2 ^ 64 → ((q : ℕ) → at ≤ q → q < number → StandsApart port spaces q)
       → added ≡ effects ++ notice_of port spaces number → effects ++ notices_from port before at ≡ whole
@@ -36,7 +36,7 @@ module _ (port : ℕ) (before spaces : SpaceMap) (at : ℕ) (buried : Buried por
       (λ q from below. apart_before q from (apart q from below))))
       ∙ had
 
-  -- none is left
+  -- no notice is left
   pub all_notified : (old effects : List Effect) → AreSmall before
       → ((q : ℕ) → at ≤ q → q < 2 ^ 64 → StandsApart port spaces q)
       → effects ++ notices_from port before at ≡ old ++ notices_from port before 0

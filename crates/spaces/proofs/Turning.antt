@@ -1,4 +1,4 @@
--- A slot that is removed as its changes are committed or rolled back.
+-- A slot that is removed when its changes are committed or rolled back.
 use Rattle.std.proofs.Common.{◌≡◌, ℕ, Bool, false, cond, Option, None, Some, is_some, sym, ◌∙◌, ap}
 use Rattle.std.specs.Ordering.{nat_cmp}
 use Rattle.std.specs.FinMap.{FinMap, get, insert, remove}

@@ -1,4 +1,4 @@
--- The names once a port has died, changed place by place.
+-- The names after a port's death, changed place by place.
 use Rattle.std.proofs.Common.{◌≡◌, ℕ, ◌+◌, ◌^◌, ◌<◌, ◌≤◌, ◌==◌, ◌/◌, ◌%◌, Bool, true, false, cond, ◌&&◌, nat_lt, Option, None, Some, MatchOption, is_some, option_map, option_and_then, refl, sym, ◌∙◌, ap, subst, arith}
 use Rattle.std.proofs.lemmas.Bool.{ltb-false, ltb-true}
 use Rattle.std.specs.Cmp.{nat_cmp_total}
@@ -16,7 +16,7 @@ use Rattle.spaces.specs.Laws.{get_names_changed}
 use Rattle.spaces.specs.Looking.{entry_in, port_named, place, at_place, parts, parts_of}
 use Rattle.spaces.specs.Slots.{SpaceMap, TrackedSpaces, names_changed}
 
--- Below the place the names are as after the death, from there on as before.
+-- The names below the place are as after the death, and those from the place on are as before.
 pub record Buried (port : ℕ) (before spaces : SpaceMap) (at : ℕ) : Type 0 where
   pub there : (space : ℕ) → is_some (get spaces space) ≡ is_some (get before space)
   pub done : (space name : ℕ) → name < 2 ^ 32 → place space name < at
@@ -24,7 +24,7 @@ pub record Buried (port : ℕ) (before spaces : SpaceMap) (at : ℕ) : Type 0 wh
   pub left : (space name : ℕ) → name < 2 ^ 32 → at ≤ place space name
       → entry_in spaces space name ≡ entry_in before space name
 
--- whether a name has to do with the port: it stands for a right to the port, or its request has the port as target
+-- the name at a place has neither a right to the port nor a request whose target is the port
 abbrev pub StandsApart : ℕ → SpaceMap → ℕ → Type 0
 StandsApart port spaces number =
     (is_number (at_place port_named spaces number) port ≡ false)
@@ -47,7 +47,7 @@ apart_stays port (SendOnce other target) named asked =
 apart_stays port Set named asked = refl
 apart_stays port (Dead references) named asked = refl
 
--- a name that stands apart is after the death as before
+-- such a name is the same before and after the death
 stays : (port : ℕ) (spaces : SpaceMap) (space name : ℕ) → name < 2 ^ 32 → StandsApart port spaces (place space name)
     → entry_in spaces space name ≡ option_map (entry_after_death port) (entry_in spaces space name)
 stays port spaces space name small apart =
@@ -71,7 +71,7 @@ less_or_not a b P first second =
     elim (nat_lt a b) as (λ (t : Bool). nat_lt a b ≡ t → P)
     [ true ↦ λ (e : _). first (ltb-true a b e) | false ↦ λ (e : _). second (ltb-false a b e) ] refl
 
--- the places up to another stand apart
+-- the places between two others are such
 pub passed : (port : ℕ) (before spaces : SpaceMap) (at next : ℕ) → at ≤ next → next ≤ 2 ^ 64
     → ((q : ℕ) → at ≤ q → q < next → StandsApart port spaces q) → Buried port before spaces at
     → Buried port before spaces next
@@ -84,7 +84,7 @@ passed port before spaces at next more fits apart buried = record {
   left = λ space name small from. buried.left space name small (omega (arith, more, from));
 }
 
--- all is done
+-- all places are done
 pub all_buried : (port : ℕ) (before spaces : SpaceMap) → AreSmall before → AreSmall spaces
     → Buried port before spaces (2 ^ 64) → spaces ≡ map_values (map_values (entry_after_death port)) before
 all_buried port before spaces small_before small buried =
@@ -121,7 +121,7 @@ all_buried port before spaces small_before small buried =
         sym (get-map_values (entry_after_death port) former n)))
         ∙ sym (ap (option_map (map_values (entry_after_death port))) was)
 
--- an entry put where there is one
+-- an existing entry is replaced
 entry_put : (spaces : SpaceMap) (space name : ℕ) (entry : Entry) (s n : ℕ) → is_some (get spaces space) ≡ true
     → entry_in (names_changed spaces space (λ names. insert names name entry)) s n
     ≡ cond (eq_by_cmp nat_cmp s space && eq_by_cmp nat_cmp n name) (Some entry) (entry_in spaces s n)
@@ -146,7 +146,7 @@ has_space : (o : Option Names) (name : ℕ) (entry : Entry) → option_and_then 
 has_space None name entry at = absurd (cc at)
 has_space (Some names) name entry at = refl
 
--- the name of the place is done
+-- the name at the next place is done
 pub one_buried : (port : ℕ) (before spaces : SpaceMap) (space name : ℕ) (entry : Entry) → name < 2 ^ 32
     → entry_in spaces space name ≡ Some entry → Buried port before spaces (place space name)
     → Buried port before (names_changed spaces space (λ names. insert names name (entry_after_death port entry)))
@@ -220,12 +220,12 @@ one_buried port before spaces space name entry fits at buried = record {
     waiting s n small from true first false second = buried.left s n small (omega (arith, from))
     waiting s n small from false first b second = buried.left s n small (omega (arith, from))
 
--- the first place, from a given one on, that has to do with the port
+-- the first place from a given one on whose name has a right to the port or a request whose target it is
 abbrev pub IsNextMention : ℕ → SpaceMap → ℕ → Option ℕ → Type 0
 IsNextMention port spaces from found = MatchOption found ((q : ℕ) → from ≤ q → q < 2 ^ 64 → StandsApart port spaces q)
     (λ first. (from ≤ first) × (first < 2 ^ 64) × ((q : ℕ) → from ≤ q → q < first → StandsApart port spaces q))
 
--- what a name becomes keeps the bound of references
+-- an entry after the death is within the bound of references
 pub few_after_death : (serial : ℕ) (entry : Entry) → AreFewReferences entry
     → AreFewReferences (entry_after_death serial entry)
 few_after_death serial (Port rights) few =
@@ -246,7 +246,7 @@ few_after_death serial (SendOnce port target) few =
 few_after_death serial Set few = tt
 few_after_death serial (Dead references) few = few
 
--- what is done at one place
+-- the change at one place
 abbrev pub IsBuriedAt : ℕ → TrackedSpaces → TrackedSpaces → ℕ → Type 0
 IsBuriedAt port old new number = MatchOption (entry_in old.current (number / 2 ^ 32) (number % 2 ^ 32)) (new ≡ old)
     (λ entry. new ≡ record old {

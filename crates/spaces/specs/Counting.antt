@@ -1,4 +1,4 @@
--- The send and send-once rights that names stand for, and the targets of their requests, counted by port.
+-- The send and send-once rights of names, with the targets of their requests, counted by port.
 use Rattle.std.proofs.Common.{◌≡◌, ℕ, ◌+◌, ◌^◌, ◌<◌, ◌==◌, Bool, true, false, cond, Option, None, Some, refl, sym, ◌∙◌, ap, subst, arith}
 use Rattle.std.specs.Prelude.{if◌then◌else◌}
 use Rattle.std.specs.Cmp.{nat_cmp_total}
@@ -16,11 +16,11 @@ use Rattle.port_indexes.specs.Counts.{Counts, count_at, none_counted}
 use Rattle.port_indexes.specs.Rights.{AreCounted, right_weight, right_more, right_fewer, counted_more, counted_fewer, counted_same}
 use Rattle.spaces.specs.Slots.{SpaceMap, names_changed}
 
--- what the rights of all names weigh, with the targets of their requests
+-- the weight of the rights of all names, with the targets of their requests
 abbrev pub spaces_weigh : Weight → SpaceMap → ℕ
 spaces_weigh w spaces = total (λ space names. names_weigh w names) spaces
 
--- the serials are words
+-- serials fit 64 bits
 abbrev pub IsWordIfSome : Option ℕ → Type 0
 IsWordIfSome None = Unit {0}
 IsWordIfSome (Some serial) = serial < 2 ^ 64
@@ -32,8 +32,8 @@ AreWords (Some (SendOnce port target)) = (port < 2 ^ 64) × IsWordIfSome target
 AreWords (Some Set) = Unit {0}
 AreWords (Some (Dead references)) = Unit {0}
 
--- the counts with, or without: the target of a request, a send right where there are references, and what a name stands
--- for
+-- the counts with, and without, the target of a request, a send right if there are references, and the rights of an
+-- entry
 abbrev pub target_more : Counts → Option ℕ → Counts
 target_more counts None = counts
 target_more counts (Some serial) = right_more counts kind.SendOnce serial
@@ -103,7 +103,7 @@ module _ (f : Weight → ℕ) (counts : Counts) where
   receive_discounted true port small are = counted_fewer f counts kind.Receive port small are
   receive_discounted false port small are = counted_same (λ w. f w + 0) f counts (λ w. omega arith) are
 
--- what a name stands for is counted, or no longer counted
+-- the rights of an entry are added to the counts, or subtracted
 pub entry_counted : (f : Weight → ℕ) (counts : Counts) (entry : Option Entry) → AreWords entry → AreCounted f counts
     → AreCounted (λ w. f w + under w entry) (entry_more counts entry)
 entry_counted f counts None small are = counted_same f (λ w. f w + 0) counts (λ w. omega arith) are
@@ -140,7 +140,7 @@ entry_discounted f counts (Some Set) small are = counted_same (λ w. f w + 0) f 
 entry_discounted f counts (Some (Dead references)) small are =
     counted_same (λ w. f w + 0) f counts (λ w. omega arith) are
 
--- What the spaces weigh once what a name stands for was replaced.
+-- The weight of the spaces after the entry of a name was replaced.
 replaced : (names : Names) (name : ℕ) (change : Names → Names) (o : Option Entry)
     → ((n : ℕ) → get (change names) n ≡ cond (eq_by_cmp nat_cmp n name) o (get names n))
     → change names ≡ changed names name o
@@ -166,7 +166,7 @@ moved_weight w spaces space name names change o there each =
           (elim m as (λ _. SpaceMap) [ None ↦ spaces | Some ns ↦ insert spaces space (change ns) ])) there,
     )
 
--- counts of what all names of the spaces stand for
+-- the counts of the rights of all names in the spaces
 abbrev pub SpacesAreCounted : SpaceMap → Counts → Type 0
 SpacesAreCounted spaces counts = AreCounted (λ w. spaces_weigh w spaces) counts
 
@@ -184,7 +184,7 @@ moved_counted spaces old new space name names change o there each small other is
     (λ w. moved_weight w spaces space name names change o there each)
     (entry_counted (λ w. spaces_weigh w spaces) old o other are)))
 
--- nothing is counted
+-- no spaces
 no_names : (w : Weight) → names_weigh w empty ≡ 0
 no_names w = ap (weigh (λ (e : ℕ × Entry). entry_weigh w e.1)) entries_none
 
@@ -205,7 +205,7 @@ nothing_counted spaces counts none nothing = record {
     weighs_none : (w : Weight) → spaces_weigh w spaces ≡ 0
     weighs_none w = ap (spaces_weigh w) none ∙ no_spaces w
 
--- a space without names counts nothing, whether it exists or not
+-- a space without names doesn't change the counts
 pub opened_counted : (spaces : SpaceMap) (space : ℕ) (counts : Counts) → get spaces space ≡ None
     → SpacesAreCounted spaces counts → SpacesAreCounted (insert spaces space empty) counts
 opened_counted spaces space counts none are =

@@ -1,5 +1,5 @@
--- The names indexed by the ports whose receive rights they hold, by those that they stand for other rights to, and by
--- those that their requests have as targets.
+-- Indexes of names by the ports of their receive rights, by the ports of their other rights, and by the targets of
+-- their requests.
 use Rattle.std.proofs.Common.{nat_lt, if◌then◌else◌, ◌≡◌, ℕ, ◌^◌, ◌<◌, ◌≤◌, ◌/◌, ◌%◌, Bool, true, false, cond, [], ◌∷◌, ◌++◌, Option, None, Some, MatchOption, is_some, option_map, option_and_then, refl, sym, ◌∙◌, ap, subst, arith}
 use Rattle.std.specs.Cmp.{nat_cmp_total}
 use Rattle.std.specs.Ordering.{nat_cmp, eq_by_cmp}
@@ -17,7 +17,7 @@ use Rattle.spaces.specs.Looking.{entry_in, port_shared, place, at_place, place_c
 use Rattle.spaces.specs.Slots.{SpaceMap, names_changed}
 use Rattle.tracked_map.specs.Tracked.{at_rest}
 
--- names are words, and so are the numbers of spaces
+-- names and space numbers fit 32 bits
 abbrev pub AreSmall : SpaceMap → Type 0
 AreSmall spaces = (space name : ℕ) → is_some (entry_in spaces space name) ≡ true → (space < 2 ^ 32) × (name < 2 ^ 32)
 
@@ -28,7 +28,7 @@ pub record AreIndexed (spaces : SpaceMap) (sharers requesters receivers : Number
   pub counted : SpacesAreCounted spaces counts
   pub small : AreSmall spaces
 
--- what a name stands for was replaced
+-- the entry of a name was replaced
 pub record IsMoved (old new : NameIndexes) (number : ℕ) (former entry : Option Entry) : Type 0 where
   pub held : new.sharers.current
       ≡ moved old.sharers.current number (option_and_then port_shared former) (option_and_then port_shared entry)
@@ -61,7 +61,7 @@ pub record AreCommitted (old new : NameIndexes) : Type 0 where
   pub counted : new.counts ≡ at_rest old.counts.current
   pub noted : new.changed.items ≡ []
 
--- the indexes once one name has changed
+-- the indexes after one name has changed
 pub moved_indexed : (spaces : SpaceMap) (old new : NameIndexes) (space name : ℕ) (names : Names)
     (change : Names → Names) (o : Option Entry) → name < 2 ^ 32 → space < 2 ^ 32 → get spaces space ≡ Some names
     → ((n : ℕ) → get (change names) n ≡ cond (eq_by_cmp nat_cmp n name) o (get names n))
@@ -144,7 +144,7 @@ none_indexed spaces sharers requesters receivers counts none a b c d = record {
         (λ (n : Option Names). option_and_then look (option_and_then (λ names. get names (q % 2 ^ 32)) n))
         (get-empty nat_cmp (q / 2 ^ 32))
 
--- the same indexes for spaces that look alike
+-- the same indexes for spaces with the same entries
 pub same_indexed : (spaces other : SpaceMap) (sharers requesters receivers : Numbers) (counts : Counts)
     → ((space name : ℕ) → entry_in spaces space name ≡ entry_in other space name)
     → (SpacesAreCounted spaces counts → SpacesAreCounted other counts)
@@ -163,7 +163,7 @@ same_indexed spaces other sharers requesters receivers counts alike counted are 
   small = λ s n some. are.small s n (ap is_some (alike s n) ∙ some);
 }
 
--- the former spaces are indexed as before
+-- the indexes at the last commit or rollback
 pub indexed_before : (old new : NameIndexes) (spaces after : SpaceMap) → after ≡ spaces → SameBefore old new
     → AreIndexed spaces old.sharers.before old.requesters.before old.receivers.before old.counts.before
     → AreIndexed after new.sharers.before new.requesters.before new.receivers.before new.counts.before
@@ -199,7 +199,7 @@ indexed_after old new spaces after space name change o small few there changed i
         (moved_indexed spaces old new space name names change o small few at (changed names) are
         (subst (λ (f : Option Entry). IsMoved old new (place space name) f o) stood done))
 
--- the first place, from a given one on, at which a look gives the number
+-- the first place from a given one on for which the function gives the number
 abbrev pub IsNextAt : (Entry → Option ℕ) → SpaceMap → ℕ → ℕ → Option ℕ → Type 0
 IsNextAt look spaces number from found =
     MatchOption found ((place : ℕ) → from ≤ place → place < 2 ^ 64
@@ -218,7 +218,7 @@ next_at look spaces places number from (Some first) indexed is = (
   λ place after before. sym (indexed number place (omega (arith, before, is.1))) ∙ is.3 place after before,
 )
 
--- a space without names holds nothing, whether it exists or not
+-- a space without names has no entries, like one that doesn't exist
 pub opened_alike : (spaces : SpaceMap) (space : ℕ) → get spaces space ≡ None → (s name : ℕ)
     → entry_in spaces s name ≡ entry_in (insert spaces space empty) s name
 opened_alike spaces space none s name =
@@ -251,7 +251,7 @@ closed_alike spaces space none s name =
         (key_is s space same))
     go false _ = refl
 
--- the lesser of two numbers, if there are two
+-- the lesser of two numbers, the only one, or None
 abbrev pub lesser : Option ℕ → Option ℕ → Option ℕ
 lesser None other = other
 lesser (Some one) None = Some one

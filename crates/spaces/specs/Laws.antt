@@ -1,4 +1,4 @@
--- The spaces once a slot has changed.
+-- The spaces after a slot has changed.
 use Rattle.std.proofs.Common.{◌≡◌, ℕ, zero, suc, ◌<◌, ◌+◌, ◌-◌, Bool, true, false, cond, List, [], ◌∷◌, ◌++◌, Option, None, Some, is_some, option_map, option_and_then, refl, sym, ◌∙◌, ap, subst, arith}
 use Rattle.std.specs.Cmp.{nat_cmp_total}
 use Rattle.std.specs.Ordering.{nat_cmp, eq_by_cmp}
@@ -43,7 +43,7 @@ get_names_changed spaces space change q (Some names) at =
     [ None ↦ spaces | Some names ↦ insert spaces space (change names) ]) q) at
     ∙ get-insert nat_cmp_total spaces space (change names) q
 
--- the spaces once the names of one have changed, if that one exists, and if it doesn't
+-- the spaces after the names of one have changed, if it exists, and if it doesn't
 pub changed_there : (spaces : SpaceMap) (space : ℕ) (change : Names → Names) (names : Names)
     → get spaces space ≡ Some names → names_changed spaces space change ≡ insert spaces space (change names)
 changed_there spaces space change names at =
@@ -55,7 +55,7 @@ changed_absent spaces space change at =
     ap (λ (o : Option Names). elim o as (λ _. SpaceMap) [ None ↦ spaces | Some n ↦ insert spaces space (change n) ]) at
 
 module _ (slots : SpaceSlots) (key : ℕ) (change : SpaceSlot → SpaceSlot) (look : SpaceSlot → Option Names) where
-  -- a change that the look doesn't see
+  -- a change that doesn't affect the value of `look`
   pub looks_same : ((s : SpaceSlot) → look (change s) ≡ look s)
       → picked look (slot_changed slots key change) ≡ picked look slots
   looks_same unseen =
@@ -74,7 +74,7 @@ module _ (slots : SpaceSlots) (key : ℕ) (change : SpaceSlot → SpaceSlot) (lo
           one (get slots key) ∙ ap (λ (k : ℕ). option_and_then look (get slots k)) (sym (key_is q key same))
       go q false _ = refl
 
-  -- a change of the names that the look sees
+  -- a change of the names that affects the value of `look`
   pub looks_changed : (names : Names → Names) → ((s : SpaceSlot) → look (change s) ≡ option_map names (look s))
       → picked look (slot_changed slots key change) ≡ names_changed (picked look slots) key names
   looks_changed names seen = alike _ _ (λ q.
@@ -98,7 +98,7 @@ module _ (slots : SpaceSlots) (key : ℕ) (change : SpaceSlot → SpaceSlot) (lo
       go q true _ = one (get slots key)
       go q false _ = refl
 
-  -- a change after which the look sees nothing
+  -- a change after which `look` gives None
   pub looks_gone : ((s : SpaceSlot) → look (change s) ≡ None)
       → picked look (slot_changed slots key change) ≡ remove (picked look slots) key
   looks_gone gone = alike _ _ (λ q.
@@ -118,7 +118,7 @@ module _ (slots : SpaceSlots) (key : ℕ) (change : SpaceSlot → SpaceSlot) (lo
       go q true _ = one (get slots key)
       go q false _ = refl
 
--- only what is touched has changed
+-- only the touched slots have changed
 pub changed_touched : (slots : SpaceSlots) (touched longer : List ℕ) (key : ℕ) (change : SpaceSlot → SpaceSlot)
     → longer ≡ touched ++ key ∷ [] → AreTouched was is slots touched
     → AreTouched was is (slot_changed slots key change) longer
@@ -151,7 +151,7 @@ opened_touched slots touched longer key more are =
     go None = put_touched was is slots (touched ++ key ∷ []) key _ (last_is_touched was is touched key) whole
     go (Some slot) = put_touched was is slots (touched ++ key ∷ []) key _ (last_is_touched was is touched key) whole
 
--- a space is made
+-- a space is added
 pub opened_is : (slots : SpaceSlots) (key : ℕ) → picked is (slot_opened slots key) ≡ insert (picked is slots) key empty
 opened_is slots key = alike _ _ (λ q.
     get_picked is (slot_opened slots key) q ∙ ap (option_and_then is) (go q (get slots key) refl)
@@ -209,7 +209,7 @@ opened_was slots key =
         ap (option_and_then was) (get-insert nat_cmp_total slots key _ q)
         ∙ step q (eq_by_cmp nat_cmp q key) _ refl (sym (ap (option_and_then was) at))
 
--- as many spaces as before
+-- the number of spaces is the same
 pub as_many : (spaces : SpaceMap) (space : ℕ) (change : Names → Names)
     → len (names_changed spaces space change) ≡ len spaces
 as_many spaces space change = go (get spaces space) refl
@@ -222,7 +222,7 @@ as_many spaces space change = go (get spaces space) refl
         len-insert nat_cmp_total spaces space (change names) ∙ ap
         (λ (o : Option Names). cond (is_some o) (len spaces) (len spaces + 1)) at
 
--- the same spaces exist once the names of one have changed
+-- the same spaces exist after the names of one have changed
 pub same_numbers : (spaces : SpaceMap) (space : ℕ) (change : Names → Names) (q : ℕ)
     → is_some (get (names_changed spaces space change) q) ≡ is_some (get spaces q)
 same_numbers spaces space change q =
@@ -243,7 +243,7 @@ both a b c d first second =
     ap (λ (m : SpaceMap). record { before = m; current = b }) first ∙ ap
     (λ (m : SpaceMap). record { before = c; current = m }) second
 
--- The slots are at rest.
+-- No slot has changes to commit or roll back.
 pub record Rest (slots : SpaceSlots) (touched : List ℕ) (spaces : SpaceMap) : Type 0 where
   pub touched_none : AreTouched was is slots touched
   pub seen_was : picked was slots ≡ spaces
@@ -276,7 +276,7 @@ new_rest slots touched none new =
         alike _ _ (λ q. get_picked is empty q ∙ ap (option_and_then is) (get-empty nat_cmp q)
         ∙ sym (get-empty nat_cmp q))
 
--- a slot is rolled back, whether it is among those that may have changed or not
+-- a slot is rolled back, whether it is touched or not
 pub rolled_back_touched : (slots : SpaceSlots) (touched : List ℕ) (key : ℕ) → AreTouched was is slots touched
     → AreTouched was is (slot_changed slots key rolled_back_slot) touched
 rolled_back_touched slots touched key are q slot at off =
@@ -299,7 +299,7 @@ rolled_back_touched slots touched key are q slot at off =
         there (get slots q) refl (ap (λ (k : ℕ). option_map rolled_back_slot (get slots k)) (key_is q key same) ∙ found)
     go false _ found = are q slot found off
 
--- what is known of the spaces is known of their slots
+-- the slot of a space, from the spaces
 pub slot_is : (slots : SpaceSlots) (key : ℕ) (slot : SpaceSlot) (o : Option Names) → get (picked is slots) key ≡ o
     → get slots key ≡ Some slot → slot.current ≡ o
 slot_is slots key slot o seen at = sym (ap (option_and_then is) at) ∙ sym (get_picked is slots key) ∙ seen

@@ -1,4 +1,4 @@
--- What stands at a place: at a name of a space, as one number.
+-- Places: a space and a name as one number.
 use Rattle.std.proofs.Common.{◌≡◌, ℕ, ◌+◌, ◌*◌, ◌^◌, ◌<◌, ◌/◌, ◌%◌, Bool, true, false, cond, ◌&&◌, Option, None, Some, option_map, option_and_then, refl, sym, ◌∙◌, ap, arith}
 use Rattle.std.specs.Prelude.{if◌then◌else◌}
 use Rattle.std.specs.Ordering.{nat_cmp, eq_by_cmp}
@@ -11,11 +11,11 @@ use Rattle.spaces.specs.Laws.{get_names_changed}
 use Rattle.spaces.specs.Slots.{SpaceMap, SpaceSlot, SpaceSlots, is, names_changed, stood_at}
 use Rattle.tracked_map.specs.Slots.{get_picked, picked}
 
--- what a space holds under a name
+-- the entry of a name in a space
 abbrev pub entry_in : SpaceMap → ℕ → ℕ → Option Entry
 entry_in spaces space name = option_and_then (λ names. get names name) (get spaces space)
 
--- what a name stands for, by the slots of the spaces
+-- the entry of a name, from the slots of the spaces
 pub stood_is : (slots : SpaceSlots) (space name : ℕ) → stood_at slots space name ≡ entry_in (picked is slots) space name
 stood_is slots space name =
     go (get slots space) ∙ sym (ap (option_and_then (λ (names : Names). get names name)) (get_picked is slots space))
@@ -26,25 +26,25 @@ stood_is slots space name =
     go None = refl
     go (Some slot) = refl
 
--- the port that a name stands for a right to
+-- the port of an entry's right
 abbrev pub port_named : Entry → Option ℕ
 port_named (Port rights) = Some rights.port
 port_named (SendOnce port target) = Some port
 port_named Set = None
 port_named (Dead references) = None
 
--- the port that a name stands for a right to, if it doesn't hold the receive right
+-- the port of an entry's right, if the entry doesn't hold the receive right
 abbrev pub port_shared : Entry → Option ℕ
 port_shared (Port rights) = if rights.receive then None else Some rights.port
 port_shared (SendOnce port target) = Some port
 port_shared Set = None
 port_shared (Dead references) = None
 
--- the number of a name in a space
+-- the place of a name in a space
 abbrev pub place : ℕ → ℕ → ℕ
 place space name = space * 2 ^ 32 + name
 
--- what a look at the name of a place gives
+-- the value that a function gives for the entry at a place
 abbrev pub at_place : (Entry → Option ℕ) → SpaceMap → ℕ → Option ℕ
 at_place look spaces number = option_and_then look (entry_in spaces (number / 2 ^ 32) (number % 2 ^ 32))
 
@@ -89,7 +89,7 @@ place_same q space name small =
     go false whole false first b second = refl
     go false whole true first false second = refl
 
--- one name of a space changed, at its place
+-- the entry at one place changed
 pub place_changed : (look : Entry → Option ℕ) (spaces : SpaceMap) (space name : ℕ) (names : Names)
     (change : Names → Names) (o : Option Entry) → name < 2 ^ 32 → get spaces space ≡ Some names
     → ((n : ℕ) → get (change names) n ≡ cond (eq_by_cmp nat_cmp n name) o (get names n))

@@ -1,4 +1,4 @@
--- The names that changed, by their places.
+-- The places of the names that changed.
 use Rattle.std.proofs.Common.{◌≡◌, ℕ, ◌^◌, ◌<◌, ◌/◌, ◌%◌, Bool, true, false, cond, ◌&&◌, ◌||◌, List, [], ◌∷◌, ◌++◌, Option, None, Some, option_and_then, option_map, refl, sym, ◌∙◌, ap}
 use Rattle.std.specs.Ordering.{nat_cmp, eq_by_cmp}
 use Rattle.std.specs.FinMap.{get}
@@ -10,11 +10,11 @@ use Rattle.spaces.specs.Looking.{entry_in, place, place_same}
 use Rattle.spaces.specs.Slots.{SpaceMap, names_changed}
 use Rattle.tracked_map.specs.Touched.{is_touched, touched_append}
 
--- what the name of a place stands for
+-- the entry of the name at a place
 abbrev pub entry_at_place : SpaceMap → ℕ → Option Entry
 entry_at_place spaces number = entry_in spaces (number / 2 ^ 32) (number % 2 ^ 32)
 
--- each name whose place isn't among these stands for what it stood for
+-- each name whose place isn't in the list has the same entry as before
 abbrev pub AreNoted : SpaceMap → SpaceMap → List ℕ → Type 0
 AreNoted before current places =
     (number : ℕ) → is_touched number places ≡ false → entry_at_place current number ≡ entry_at_place before number
@@ -28,14 +28,14 @@ or_false false false e = (refl, refl)
 pub none_noted : (before current : SpaceMap) (places : List ℕ) → current ≡ before → AreNoted before current places
 none_noted before current places same number off = ap (λ (s : SpaceMap). entry_at_place s number) same
 
--- names that look alike
+-- spaces with the same entries
 pub alike_noted : (before current after : SpaceMap) (places : List ℕ)
     → ((space name : ℕ) → entry_in current space name ≡ entry_in after space name) → AreNoted before current places
     → AreNoted before after places
 alike_noted before current after places alike are number off =
     sym (alike (number / 2 ^ 32) (number % 2 ^ 32)) ∙ are number off
 
--- the map from before is replaced by an equal one
+-- the former spaces are replaced by equal ones
 pub before_noted : (before other current : SpaceMap) (places : List ℕ) → other ≡ before → AreNoted before current places
     → AreNoted other current places
 before_noted before other current places same are number off =

@@ -1,4 +1,4 @@
--- Which numbers spaces have, as bits of words.
+-- The numbers of spaces, as bits of words.
 use Rattle.std.proofs.Common.{◌≡◌, ◌≢◌, ℕ, ◌+◌, ◌-◌, ◌*◌, ◌/◌, ◌%◌, ◌<◌, ◌≤◌, Bool, true, false, cond, nat_lt, Option, None, Some, is_some, IsSome, get_or, refl, sym, ◌∙◌, ap, arith}
 use Rattle.std.proofs.lemmas.Bool.{ltb-false, ltb-true}
 use Rattle.std.specs.Cmp.{nat_cmp_total}
@@ -12,21 +12,21 @@ use Rattle.port_space.specs.Crowded.{crowded}
 use Rattle.spaces.specs.Slots.{SpaceMap}
 use Rattle.spaces.specs.declared.numbers.Numbers.{Numbers}
 
--- what stands at a place: 1 where it is taken
+-- the bit at an index: 1 if it is set
 abbrev pub place_at : Numbers → ℕ → ℕ
 place_at numbers k = bit_at (get_or numbers.words (k / 64) 0) (k % 64)
 
--- the first free place, or the number of places if none is free
+-- the index of the first clear bit, or the number of bits if all are set
 pub record IsFirstFree (numbers : Numbers) (found : ℕ) : Type 0 where
   pub few : found ≤ 256
   pub free : found < 256 → place_at numbers found ≡ 0
   pub taken : (k : ℕ) → k < found → place_at numbers k ≡ 1
 
--- a place is taken if a space has the number after it
+-- the bit at k is set exactly if space k + 1 exists
 pub record AreTaken (numbers : Numbers) (spaces : SpaceMap) : Type 0 where
   pub each : (k : ℕ) → k < 256 → place_at numbers k ≡ cond {A = ℕ} (is_some (get spaces (k + 1))) 1 0
 
--- the least number that no space has
+-- the least unused number of a space
 pub record IsFreeNumber (spaces : SpaceMap) (number : ℕ) : Type 0 where
   pub first : 0 < number
   pub few : number ≤ MAX_SPACES
@@ -40,13 +40,13 @@ none_taken numbers free =
           ∙ sym (ap (λ (o : Option Names). cond {A = ℕ} (is_some o) 1 0) (get-empty nat_cmp (k + 1)));
     }
 
--- spaces of the same numbers
+-- spaces with the same numbers
 pub same_taken : (numbers : Numbers) (spaces other : SpaceMap)
     → ((q : ℕ) → is_some (get other q) ≡ is_some (get spaces q)) → AreTaken numbers spaces → AreTaken numbers other
 same_taken numbers spaces other same taken =
     record { each = λ k few. taken.each k few ∙ ap (λ (b : Bool). cond {A = ℕ} b 1 0) (sym (same (k + 1))) }
 
--- different numbers have different places
+-- different numbers have different bits
 apart : (k number place : ℕ) → number ≡ place + 1 → eq_by_cmp nat_cmp (k + 1) number ≡ false → k ≢ place
 apart k number place at other same =
     absurd (cc (sym other ∙ ap (λ (q : ℕ). eq_by_cmp nat_cmp q number) (omega (arith, same, at)) ∙ same_key number))
@@ -80,7 +80,7 @@ module _ (old new : Numbers) (number place : ℕ) (at : number ≡ place + 1)
       go k few true same = ap (place_at new) (omega (arith, key_is (k + 1) number same, at)) ∙ is
       go k few false other = others k (apart k number place at other) ∙ taken.each k few
 
--- a number that has no place
+-- A number without a bit.
 module _ (numbers : Numbers) (number : ℕ) (outside : (k : ℕ) → k < 256 → number ≡ k + 1 → ⊥) (spaces : SpaceMap)
     (taken : AreTaken numbers spaces) where
   other_place : (k : ℕ) → k < 256 → eq_by_cmp nat_cmp (k + 1) number ≡ false
@@ -108,7 +108,7 @@ module _ (numbers : Numbers) (number : ℕ) (outside : (k : ℕ) → k < 256 →
         (λ (b : Bool). cond b None (get spaces (k + 1))) (other_place k few)));
   }
 
--- the places of the words after one
+-- all bits up to the end of a full word are set, if those of all words before it are
 pub word_taken : (numbers : Numbers) (words word k : ℕ) → word ≡ get_or numbers.words words 0
     → ((i : ℕ) → i < 64 → bit_at word i ≡ 1) → ((q : ℕ) → q < 64 * words → place_at numbers q ≡ 1) → k < 64 * words + 64
     → place_at numbers k ≡ 1
@@ -121,7 +121,7 @@ word_taken numbers words word k is all before less =
           ∙ all (k % 64) (omega arith)
     ] refl
 
--- the first free place of the words is in this one
+-- the first clear bit is in this word
 pub found_free : (numbers : Numbers) (words word bit found : ℕ) → words < 4 → word ≡ get_or numbers.words words 0
     → found ≡ 64 * words + bit → (bit < 64) × (bit_at word bit ≡ 0) × ((i : ℕ) → i < bit → bit_at word i ≡ 1)
     → ((q : ℕ) → q < 64 * words → place_at numbers q ≡ 1) → IsFirstFree numbers found
@@ -142,7 +142,7 @@ found_free numbers words word bit found few is at first before = record {
         ap (λ (w : ℕ). bit_at (get_or numbers.words w 0) (k % 64)) here ∙ ap (λ (w : ℕ). bit_at w (k % 64)) (sym is)
         ∙ ap (bit_at word) there
 
--- the number after the first free place
+-- the number of the first clear bit
 pub free_is : (numbers : Numbers) (spaces : SpaceMap) (found : ℕ) → AreTaken numbers spaces → IsFirstFree numbers found
     → len spaces < MAX_SPACES → IsFreeNumber spaces (found + 1)
 free_is numbers spaces found taken free room = record {

@@ -1,4 +1,4 @@
--- What the crates above use of the libraries below, so that they name only one of them.
+-- Re-exports from libraries below, so that crates above name only this one.
 pub use Rattle.port_indexes.specs.Rights.{right_weight}
 pub use Rattle.port_indexes.specs.Indexed.{IsIndexed, alike_indexed, nothing_indexed, place_moved}
 pub use Rattle.port_indexes.specs.Places.{IsNext, Numbers, moved, stands_at}

@@ -1,4 +1,4 @@
--- The names of one space; none if it doesn't exist.
+-- The names of one space, or none if it doesn't exist.
 use Rattle.std.proofs.Common.{◌≡◌, ℕ, ◌<◌, ◌&&◌, ◌==◌, not, false, List, Option, None, Some, option_map, sym, ◌∙◌, ap}
 use Rattle.std.specs.Prelude.{find}
 use Rattle.std.specs.List.{list_any}

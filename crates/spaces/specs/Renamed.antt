@@ -1,4 +1,4 @@
--- What stands under one name of a space, put under another.
+-- The entry of one name of a space, moved to another name.
 use Rattle.std.proofs.Common.{◌≡◌, ℕ, ◌-◌, ◌<◌, ◌≤◌, Bool, true, false, cond, Option, None, Some, is_some, option_and_then, refl, sym, ◌∙◌, ap, subst, arith}
 use Rattle.std.specs.Cmp.{nat_cmp_total}
 use Rattle.std.specs.Ordering.{nat_cmp, eq_by_cmp}
@@ -15,7 +15,7 @@ use Rattle.spaces.specs.Looking.{entry_in}
 use Rattle.spaces.specs.Reading.{names_of}
 use Rattle.spaces.specs.Slots.{SpaceMap, names_changed}
 
--- A name is taken out of use, and another stands for what it stood for.
+-- A name is removed, and its entry is put under another name.
 pub renamed : (spaces : SpaceMap) (space from to : ℕ) (entry : Entry) → entry_in spaces space from ≡ Some entry
     → names_changed (names_changed spaces space (λ names. remove names from)) space (λ names. insert names to entry)
     ≡ names_changed spaces space (λ names. under_other_name names from to)
@@ -51,7 +51,7 @@ not_renamed spaces space from to nothing = go (get spaces space) refl
         (elim o as (λ _. Names) [ None ↦ names | Some e ↦ insert (remove names from) to e ])) here
         ∙ insert-same spaces space names at)
 
--- A name that stands for nothing is taken out of use.
+-- Removing a name that isn't in use changes nothing.
 nothing_removed : (names : Names) (name : ℕ) → get names name ≡ None → remove names name ≡ names
 nothing_removed names name none =
     same_map nat_cmp_total nat_cmp-IsAntisymmetric _ _
@@ -72,7 +72,7 @@ none_removed spaces space name nothing = go (get spaces space) refl
         changed_there spaces space (λ names. remove names name) names at
         ∙ ap (insert spaces space) (nothing_removed names name here) ∙ insert-same spaces space names at
 
--- If a name is taken out of use, there is room for another.
+-- If a name is removed, there is room for another one.
 pub room_left : (spaces : SpaceMap) (space from : ℕ) (entry : Entry) (names : Names)
     → entry_in spaces space from ≡ Some entry
     → get (names_changed spaces space (λ ns. remove ns from)) space ≡ Some names

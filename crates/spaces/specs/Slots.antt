@@ -1,4 +1,4 @@
--- The spaces, each in a slot with its names as of the last commit or rollback, and the current ones.
+-- Spaces in slots. Each slot holds the names at the last commit or rollback, and the current ones.
 use Rattle.std.specs.Prelude.{ℕ, Option, None, Some, option_and_then, refl}
 use Rattle.std.specs.Coded.{Coded, code_by, coded×, coded_ℕ, coded_option}
 use Rattle.std.specs.Ordering.{nat_cmp}
@@ -10,7 +10,7 @@ use Rattle.ipc_model.specs.state.Ipc.{Names}
 abbrev pub names_code : Coded Names
 names_code = map.code coded_ℕ entry.the_row.coded
 
--- the names of a space, if it existed, and if it exists
+-- the names of a slot's space before and now, if it existed and if it exists
 pub record SpaceSlot : Type 0 where
   pub before : Option Names
   pub current : Option Names
@@ -28,7 +28,7 @@ slot_at_rest names = record { before = names; current = names }
 abbrev pub SpaceMap : Type 0
 SpaceMap = map.FinMap {K = ℕ} nat_cmp Names
 
--- the spaces as of the last commit or rollback, and the current ones
+-- the spaces at the last commit or rollback, and the current ones
 pub record TrackedSpaces : Type 0 where
   pub before : SpaceMap
   pub current : SpaceMap
@@ -41,7 +41,7 @@ spaces_code =
 abbrev pub spaces_at_rest : SpaceMap → TrackedSpaces
 spaces_at_rest spaces = record { before = spaces; current = spaces }
 
--- what was in a slot, and what is
+-- the names in a slot before, and now
 abbrev pub was : SpaceSlot → Option Names
 was slot = slot.before
 
@@ -57,25 +57,25 @@ rolled_back_slot slot = slot_at_rest slot.before
 abbrev pub SpaceSlots : Type 0
 SpaceSlots = map.FinMap {K = ℕ} nat_cmp SpaceSlot
 
--- what a name of a slot's space stands for
+-- the entry of a name in a slot's space
 abbrev pub stood_at : SpaceSlots → ℕ → ℕ → Option Entry
 stood_at slots space name =
     option_and_then (λ (slot : SpaceSlot). option_and_then (λ (names : Names). map.get names name) slot.current)
     (map.get slots space)
 
--- one slot changed, if there is one of this key
+-- the slots after one has changed, if there is one with this key
 abbrev pub slot_changed : SpaceSlots → ℕ → (SpaceSlot → SpaceSlot) → SpaceSlots
 slot_changed slots key change =
     elim (map.get slots key) as (λ _. SpaceSlots) [ None ↦ slots | Some slot ↦ map.insert slots key (change slot) ]
 
--- a space without names is made
+-- the slots after a space without names is added
 abbrev pub slot_opened : SpaceSlots → ℕ → SpaceSlots
 slot_opened slots key = elim (map.get slots key) as (λ _. SpaceSlots) [
   | None ↦ map.insert slots key (record { before = None; current = Some map.empty })
   | Some slot ↦ map.insert slots key (record slot { current = Some map.empty })
 ]
 
--- the names of one space changed, if it exists
+-- the spaces after the names of one have changed, if it exists
 abbrev pub names_changed : SpaceMap → ℕ → (Names → Names) → SpaceMap
 names_changed spaces space change =
     elim (map.get spaces space) as (λ _. SpaceMap)

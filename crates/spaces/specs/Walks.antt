@@ -1,4 +1,4 @@
--- The names of a space, or of a port, processed one by one.
+-- The names of a space, or of a port, in their order.
 use Rattle.std.proofs.Common.{◌≡◌, ℕ, ◌+◌, ◌^◌, ◌<◌, ◌≤◌, ◌/◌, ◌%◌, Bool, true, false, cond, List, [], ◌++◌, Option, None, Some, is_some, option_and_then, append-nil, refl, sym, ◌∙◌, ap, arith}
 use Rattle.std.specs.Prelude.{flat_map}
 use Rattle.std.specs.Cmp.{nat_cmp_total}
@@ -18,7 +18,7 @@ use Rattle.spaces.specs.Looking.{entry_in, port_named, place, at_place, parts, p
 use Rattle.spaces.specs.Reading.{names_of}
 use Rattle.spaces.specs.Slots.{SpaceMap, names_changed}
 
--- the names of a space, by a look at each
+-- the names of a space by their entries
 pub named_in : (spaces : SpaceMap) (space name : ℕ) → get (names_of spaces space) name ≡ entry_in spaces space name
 named_in spaces space name = go (get spaces space)
   where
@@ -27,7 +27,7 @@ named_in spaces space name = go (get spaces space)
     go None = get-empty nat_cmp name
     go (Some names) = refl
 
--- A space has no names below `at` any more, and the other spaces are as they were.
+-- A space has no more names below `at`, and the other spaces are unchanged.
 pub record Emptied (before spaces : SpaceMap) (space at : ℕ) : Type 0 where
   pub others : remove spaces space ≡ remove before space
   pub gone : (name : ℕ) → name < at → entry_in spaces space name ≡ None
@@ -131,7 +131,7 @@ module _ (port : ℕ) (spaces : SpaceMap) (small : AreSmall spaces) where
       → (space < 2 ^ 32) × (name < 2 ^ 32)
   fits space name names entry there here = small space name (ap is_some (stands space name names entry there here))
 
-  -- a name that isn't the port's has no notice of it
+  -- a name without a right to the port has no notice about it
   apart : (space name : ℕ) (names : Names) (entry : Entry) → get spaces space ≡ Some names → get names name ≡ Some entry
       → is_number (at_place port_named spaces (place space name)) port ≡ false → dead_name_of_entry port name entry ≡ []
   apart space name names entry there here other =
@@ -163,7 +163,7 @@ module _ (port : ℕ) (spaces : SpaceMap) (small : AreSmall spaces) where
       (λ from. apart space name names entry there here
       (none (place space name) from (omega (arith, within.0, within.1))))))
 
-  -- places that are passed over have no notices
+  -- skipped places have no notices
   pub notices_same : (at next : ℕ) → at ≤ next
       → ((q : ℕ) → at ≤ q → q < next → is_number (at_place port_named spaces q) port ≡ false)
       → notices_from port spaces at ≡ notices_from port spaces next
@@ -239,7 +239,7 @@ module _ (port : ℕ) (spaces : SpaceMap) (small : AreSmall spaces) where
         (λ s ns more holds. entries_alike (notice_in at s) (notice_in (place space name + 1) s) ns
         (λ n e has. left s n e (omega (arith, more, within.1))))
 
--- what the name of a place adds
+-- the notice of the name at a place
 abbrev pub notice_at : SpaceMap → ℕ → List Effect
 notice_at spaces number =
     dead_name_notice (number % 2 ^ 32)
@@ -280,7 +280,7 @@ notices_step port spaces at number small next = go (get spaces (number / 2 ^ 32)
         (option_and_then port_named (option_and_then (λ (m : Names). get m (number % 2 ^ 32)) o)) port) none))
     go (Some names) there = inner names there (get names (number % 2 ^ 32)) refl
 
--- what the name of a place adds, if it stands for a right to the port
+-- the notice of the name at a place, if it has a right to the port
 abbrev pub notice_of : ℕ → SpaceMap → ℕ → List Effect
 notice_of port spaces number =
     elim (entry_in spaces (number / 2 ^ 32) (number % 2 ^ 32)) as (λ _. List Effect)

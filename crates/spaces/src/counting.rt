@@ -1,4 +1,4 @@
-// The rights that names stand for, counted.
+// Counts of the rights under names.
 ghost use Rattle.std.specs.Prelude.{◌≡◌, ◌<◌, ◌^◌, OnOk};
 ghost use Rattle.spaces.specs.Counting.{AreWords, IsWordIfSome, entry_fewer, entry_more, send_fewer, send_more, target_fewer, target_more};
 
@@ -6,7 +6,7 @@ use ipc_model::{Entry, RightKind};
 use port_indexes::PairCounts;
 use std::alloc::AllocError;
 
-/// Counts what a name stands for, and no longer what it stood for.
+/// Replaces the rights of a name's former entry in the counts by those of its new one.
 pub(crate) fn count_anew(
     counts: &mut PairCounts,
     former: Option<Entry>,
@@ -20,7 +20,7 @@ pub(crate) fn count_anew(
     Ok(())
 }
 
-/// Counts the rights that a name stands for, and the target of its request.
+/// Adds the rights of an entry, and the target of its request, to the counts.
 fn count(counts: &mut PairCounts, entry: Option<Entry>) -> Result<(), AllocError>
     ensures ok { OnOk result (counts.new.current ≡ entry_more counts.old.current entry) }
     ensures before { counts.new.before ≡ counts.old.before }
@@ -45,7 +45,7 @@ fn count(counts: &mut PairCounts, entry: Option<Entry>) -> Result<(), AllocError
     }
 }
 
-/// Uncounts the rights that a name stood for, and the target of its request.
+/// Subtracts the rights of an entry, and the target of its request, from the counts.
 fn discount(counts: &mut PairCounts, entry: Option<Entry>) -> Result<(), AllocError>
     ensures ok { OnOk result (counts.new.current ≡ entry_fewer counts.old.current entry) }
     ensures before { counts.new.before ≡ counts.old.before }
@@ -70,7 +70,7 @@ fn discount(counts: &mut PairCounts, entry: Option<Entry>) -> Result<(), AllocEr
     }
 }
 
-/// Shows that the serials in a name's entry are words. It does nothing else.
+/// Proves that the serials in an entry fit 64 bits. It does nothing else.
 pub(crate) fn are_words(entry: Option<Entry>)
     ensures { AreWords entry }
 {

@@ -1,4 +1,4 @@
-// What becomes of names when a port dies.
+// The effect of a port's death on names.
 ghost use Rattle.std.specs.Prelude.{◌≡◌, ◌<◌, ◌-◌, ◌+◌, ◌^◌, ◌%◌, ◌/◌, ◌++◌, Some, None, OnOk, OnErr, MatchOption, flat_map};
 ghost use Rattle.std.specs.FinMap as map;
 ghost use Rattle.ipc_model.specs.effects.Effects.{dead_name_of_entry, entry_after_death, is_name_of, map_values, one_more_if, without_target};
@@ -17,9 +17,9 @@ use ipc_model::{Entry, PortRights};
 use std::alloc::AllocError;
 
 impl Spaces {
-    /// A port dies: names that stand for rights to it become dead names, each with a notice for its dead-name request,
-    /// by space and name; and dead-name requests whose target it is are removed. If an allocation fails, the changes
-    /// are rolled back.
+    /// Handles a port's death. Names with rights to it become dead names, each with a notice for its dead-name request,
+    /// in the order of space and name. Dead-name requests whose target it is are removed. If an allocation fails, the
+    /// changes are rolled back.
     pub fn bury(&mut self, port: u64, effects: &mut Effects) -> Result<(), AllocError>
         ensures ok { OnOk result (self.new
             ≡ record self.old { current = map_values (map_values (entry_after_death port)) self.old.current }) }
@@ -43,14 +43,15 @@ impl Spaces {
         Ok(())
     }
 
-    /// Shows that names and the numbers of spaces are words. It does nothing else.
+    /// Proves that names and space numbers fit 32 bits. It does nothing else.
     pub fn show_counts_small(&self)
         ensures { AreSmall self.now.current }
     {
         let _ = &self.table;
     }
 
-    /// The first place from `from` on that has to do with a port.
+    /// Returns the first place from `from` on whose name has a right to a port, or whose dead-name request has it as
+    /// target.
     fn next_mention(&self, port: u64, from: u64) -> Option<u64>
         ensures { IsNextMention port self.now.current from result }
     {
@@ -64,7 +65,7 @@ impl Spaces {
         }
     }
 
-    /// The name at a place becomes what it is after the death of a port, and the notice for its request is added.
+    /// Replaces the entry at a place by its entry after the death of a port, and appends the notice for its request.
     fn bury_at(&mut self, port: u64, number: u64, effects: &mut Effects) -> Result<(), AllocError>
         ensures ok { OnOk result (MatchOption (entry_in self.old.current (number / 2 ^ 32) (number % 2 ^ 32))
             (self.new ≡ self.old)
@@ -89,7 +90,7 @@ impl Spaces {
     }
 }
 
-/// Adds the notice for the dead-name request of a name that stands for a right to a port, if it has one.
+/// Appends the notice for the dead-name request of a name with a right to a port, if it has one.
 fn notify_of(entry: Entry, port: u64, name: u32, effects: &mut Effects) -> Result<(), AllocError>
     ensures { OnOk result (effects.new ≡ effects.old ++ dead_name_of_entry port name entry) }
 {
@@ -100,7 +101,7 @@ fn notify_of(entry: Entry, port: u64, name: u32, effects: &mut Effects) -> Resul
     Ok(())
 }
 
-/// Whether a name stands for a right to a port.
+/// Returns true if an entry has a right to a port.
 fn is_name_of(entry: Entry, port: u64) -> bool
     ensures { result ≡ is_name_of port entry }
 {
@@ -111,7 +112,7 @@ fn is_name_of(entry: Entry, port: u64) -> bool
     }
 }
 
-/// What a name becomes when a port dies.
+/// Returns the entry of a name after the death of a port.
 #[tactic(auto, using(crate::specs::Burying::few_after_death))]
 fn after_death(entry: Entry, port: u64) -> Entry
     requires few { AreFewReferences entry }
@@ -141,7 +142,7 @@ fn after_death(entry: Entry, port: u64) -> Entry
     }
 }
 
-/// A dead name with these references, and one more for a dead-name request.
+/// Returns a dead name with these references, and one more if there is a dead-name request.
 fn dead_name(references: u32, target: Option<u64>) -> Entry
     requires { references < 2 ^ 32 - 1 }
     ensures { result ≡ Dead (references + one_more_if target) }
@@ -155,7 +156,7 @@ fn dead_name(references: u32, target: Option<u64>) -> Entry
     }
 }
 
-/// The target of a request, unless it is this port.
+/// Returns the target of a request, or `None` if it is this port.
 fn without_target(port: u64, target: Option<u64>) -> Option<u64>
     ensures { result ≡ without_target port target }
 {

@@ -1,4 +1,4 @@
-//! The names by the ports that they have to do with, as plain tables.
+//! Indexes of names by the ports of their entries, as plain tables.
 ghost use Rattle.std.specs.Prelude.{◌≡◌, [], OnOk, option_and_then};
 ghost use Rattle.std.specs.FinMap as map;
 ghost use Rattle.ipc_model.specs.state.Ipc.{received_port, request_of};
@@ -11,9 +11,10 @@ use ipc_model::Entry;
 use port_indexes::{PairCounts, PlaceIndex};
 use std::alloc::{AllocError, Global};
 
-/// The places of names, each a space's number and the name as one number: by the port whose receive right a name holds,
-/// by the port that any other name stands for a right to, and by the target of its dead-name request; how many send and
-/// send-once rights names stand for; and which places were changed since the last commit or rollback.
+/// Indexes of places, where a place is a space and a name as one number. They list places by the port whose receive
+/// right the name holds, by the port of any other right of the name, and by the target of its dead-name request. The
+/// send and send-once rights of names are counted, and the places that changed since the last commit or rollback are
+/// noted.
 #[derive(Drop)]
 pub(crate) struct NameIndexes {
     pub(crate) sharers: PlaceIndex,
@@ -24,7 +25,7 @@ pub(crate) struct NameIndexes {
 }
 
 impl NameIndexes {
-    /// Empty indexes. It takes no memory.
+    /// Creates empty indexes. It allocates nothing.
     pub(crate) fn new(alloc: Global) -> Self
         ensures held { result.sharers ≡ at_rest map.empty }
         ensures requested { result.requesters ≡ at_rest map.empty }
@@ -41,7 +42,7 @@ impl NameIndexes {
         }
     }
 
-    /// Replaces what stands at a place. If an allocation fails, the changes must be rolled back.
+    /// Replaces the entry at a place. If an allocation fails, the changes must be rolled back.
     pub(crate) fn change(
         &mut self,
         place: u64,
@@ -64,7 +65,7 @@ impl NameIndexes {
         Ok(())
     }
 
-    /// Commits the changes. It takes no memory.
+    /// Commits the changes. It allocates nothing.
     pub(crate) fn commit(&mut self)
         ensures { AreCommitted self.old self.new }
     {
@@ -75,7 +76,7 @@ impl NameIndexes {
         self.changed.clear();
     }
 
-    /// Rolls the changes back. It takes no memory.
+    /// Rolls the changes back. It allocates nothing.
     pub(crate) fn roll_back(&mut self)
         ensures { AreRolledBack self.old self.new }
     {
@@ -87,7 +88,7 @@ impl NameIndexes {
     }
 }
 
-/// The port that a name stands for a right to, unless it holds the receive right.
+/// Returns the port of an entry's right, unless it is the receive right.
 fn shared_of(entry: Option<Entry>) -> Option<u64>
     ensures { result ≡ option_and_then port_shared entry }
 {
@@ -98,7 +99,7 @@ fn shared_of(entry: Option<Entry>) -> Option<u64>
     }
 }
 
-/// The target of a name's dead-name request.
+/// Returns the target of an entry's dead-name request.
 pub(crate) fn target_of(entry: Option<Entry>) -> Option<u64>
     ensures { result ≡ option_and_then request_of entry }
 {
@@ -114,7 +115,7 @@ pub(crate) fn target_of(entry: Option<Entry>) -> Option<u64>
     }
 }
 
-/// The port whose receive right a name holds.
+/// Returns the port whose receive right an entry holds.
 fn received_of(entry: Option<Entry>) -> Option<u64>
     ensures { result ≡ option_and_then received_port entry }
 {

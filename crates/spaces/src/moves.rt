@@ -1,4 +1,4 @@
-// Changes of a space made of several changes of its names.
+// Changes of a space that consist of several changes of its names.
 ghost use Rattle.std.specs.Prelude.{◌≡◌, ◌≤◌, None, IfOk, OnOk, OnErr};
 ghost use Rattle.std.specs.FinMap as map;
 ghost use Rattle.codes.specs.declared.limits.TheConstants.{MAX_NAMES};
@@ -12,8 +12,8 @@ use ipc_model::Entry;
 use std::alloc::AllocError;
 
 impl Spaces {
-    /// Makes what stands under one name of a space, if anything does, stand under another, and returns it. If an
-    /// allocation fails, the changes are rolled back.
+    /// Moves the entry of one name of a space, if there is one, to another name, and returns it. If an allocation
+    /// fails, the changes are rolled back.
     pub fn rename(&mut self, space: u32, from: u32, to: u32) -> Result<Option<Entry>, AllocError>
         requires unused { entry_in self.old.current space to ≡ None }
         ensures entry { IfOk result (λ entry. entry ≡ entry_in self.old.current space from) }
@@ -33,7 +33,7 @@ impl Spaces {
         Ok(Some(entry))
     }
 
-    /// Shows that a space has at most `MAX_NAMES` names. It does nothing else.
+    /// Proves that a space has at most `MAX_NAMES` names. It does nothing else.
     fn show_names_few(&self, space: u32)
         ensures { map.len (names_of self.now.current space) ≤ MAX_NAMES }
     {

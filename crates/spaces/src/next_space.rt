@@ -11,7 +11,8 @@ use crate::table::SpaceTable;
 use number_table::NumberTable;
 
 impl Spaces {
-    /// The least number from `from` on that a space has. Spaces that closed since the last commit are passed over.
+    /// Returns the least number from `from` on that belongs to a space. Spaces that were removed since the last commit
+    /// are skipped.
     pub fn next_space(&self, from: u64) -> Option<u32>
         ensures { IsNextSpace self.now.current from result }
     {
@@ -20,7 +21,8 @@ impl Spaces {
 }
 
 impl SpaceTable {
-    /// The least number from `from` on that a space has. Spaces that closed since the last commit are passed over.
+    /// Returns the least number from `from` on that belongs to a space. Spaces that were removed since the last commit
+    /// are skipped.
     pub fn next_space(&self, from: u64) -> Option<u32>
         ensures { IsNextSpace self.now.current from result }
     {
@@ -28,7 +30,7 @@ impl SpaceTable {
     }
 }
 
-/// The least number from `from` on under which a slot has a space.
+/// Returns the least number from `from` on whose slot has a space.
 fn next_there(slots: &NumberTable<Space>, from: u64) -> Option<u32>
     ensures { IsNextSpace (picked is slots.now) from result }
 {
@@ -42,7 +44,7 @@ fn next_there(slots: &NumberTable<Space>, from: u64) -> Option<u32>
     None
 }
 
-/// The least number of a word from `from` on that has a slot, and whether there is a space in it.
+/// Returns the least number from `from` on that fits a word and has a slot, and true if there is a space in it.
 fn next_slot(slots: &NumberTable<Space>, from: u64) -> Option<(u32, bool)>
     ensures slot { MatchOption result ((number : ℕ) → from ≤ number → number < 2 ^ 32 → map.get slots.now number ≡ None)
         (λ e. (from ≤ e.0) × (e.1 ≡ is_some (option_and_then is (map.get slots.now e.0)))

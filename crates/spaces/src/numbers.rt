@@ -1,4 +1,4 @@
-//! The numbers that spaces have, as bits, so that the least free number is found without a look at each space.
+//! The numbers of spaces as bits, so that the least free number is found without a look at each space.
 ghost use Rattle.std.specs.Prelude.{◌≡◌, ◌≢◌, ℕ, ◌+◌, ◌<◌, MatchOption};
 ghost use Rattle.std.specs.FinMap as map;
 ghost use Rattle.std.specs.Int.{bit_at};
@@ -7,7 +7,7 @@ ghost use Rattle.spaces.specs.Slots.{SpaceMap};
 
 use codes::MAX_SPACES;
 
-/// Which of the numbers from 1 to `MAX_SPACES` spaces have: a bit for each, 64 in a word. It is copied whole at a
+/// The numbers from 1 to `MAX_SPACES` that spaces have, as one bit for each, 64 in a word. It is copied as a whole by a
 /// commit or rollback.
 #[derive(Clone, Copy)]
 pub(crate) struct Numbers {
@@ -15,14 +15,14 @@ pub(crate) struct Numbers {
 }
 
 impl Numbers {
-    /// The numbers when there are no spaces.
+    /// Creates the numbers of no spaces.
     pub(crate) fn new() -> Self
         ensures { AreTaken result map.empty }
     {
         Numbers { words: [0; 4] }
     }
 
-    /// A space has this number from now on.
+    /// Marks a number as used by a space.
     pub(crate) fn add(&mut self, number: u32)
         ensures { (spaces : SpaceMap) → AreTaken self.old spaces
             → AreTaken self.new (map.insert spaces number map.empty) }
@@ -32,7 +32,7 @@ impl Numbers {
         }
     }
 
-    /// No space has this number any more.
+    /// Marks a number as free.
     pub(crate) fn remove(&mut self, number: u32)
         ensures { (spaces : SpaceMap) → AreTaken self.old spaces → AreTaken self.new (map.remove spaces number) }
     {
@@ -41,7 +41,7 @@ impl Numbers {
         }
     }
 
-    /// Takes a place.
+    /// Sets the bit with this index.
     fn take(&mut self, place: u32)
         requires { place < 256 }
         ensures taken { place_at self.new place ≡ 1 }
@@ -51,7 +51,7 @@ impl Numbers {
         self.words[at] = with_bit(self.words[at], place % 64);
     }
 
-    /// Frees a place.
+    /// Clears the bit with this index.
     fn leave(&mut self, place: u32)
         requires { place < 256 }
         ensures free { place_at self.new place ≡ 0 }
@@ -61,7 +61,7 @@ impl Numbers {
         self.words[at] = without_bit(self.words[at], place % 64);
     }
 
-    /// The first free place, or how many places there are.
+    /// Returns the index of the first clear bit, or the number of bits if all are set.
     pub(crate) fn first_free(&self) -> u32
         ensures { IsFirstFree self.now result }
     {
@@ -76,7 +76,7 @@ impl Numbers {
     }
 }
 
-/// The place of a number, if it has one.
+/// Returns the index of a number's bit, or `None` if it has none.
 fn place_of(number: u32) -> Option<u32>
     ensures { MatchOption result ((k : ℕ) → k < 256 → number ≡ k + 1 → ⊥)
         (λ place. (place < 256) × (number ≡ place + 1)) }
@@ -88,7 +88,7 @@ fn place_of(number: u32) -> Option<u32>
     }
 }
 
-/// The first bit of a word that isn't set, if there is one.
+/// Returns the first clear bit of a word, if there is one.
 fn first_clear(word: u64) -> Option<u32>
     ensures { MatchOption result ((i : ℕ) → i < 64 → bit_at word i ≡ 1)
         (λ bit. (bit < 64) × (bit_at word bit ≡ 0) × ((i : ℕ) → i < bit → bit_at word i ≡ 1)) }
@@ -100,7 +100,7 @@ fn first_clear(word: u64) -> Option<u32>
     }
 }
 
-/// A word with one bit set.
+/// Returns a word with one bit set.
 fn with_bit(word: u64, bit: u32) -> u64
     requires { bit < 64 }
     ensures set { bit_at result bit ≡ 1 }
@@ -109,7 +109,7 @@ fn with_bit(word: u64, bit: u32) -> u64
     word | (1 << bit)
 }
 
-/// A word with one bit cleared.
+/// Returns a word with one bit cleared.
 fn without_bit(word: u64, bit: u32) -> u64
     requires { bit < 64 }
     ensures clear { bit_at result bit ≡ 0 }

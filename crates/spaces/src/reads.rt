@@ -9,7 +9,7 @@ use codes::{FIRST_NAME, MACH_PORT_DEAD, MACH_PORT_NULL};
 
 /// Queries on the names of one space. A space that doesn't exist has none.
 impl Spaces {
-    /// How many names a space has in use.
+    /// Returns the number of names that a space has in use.
     pub fn name_count(&self, space: u32) -> usize
         ensures { result ≡ map.len (names_of self.now.current space) }
     {
@@ -19,7 +19,8 @@ impl Spaces {
         }
     }
 
-    /// The name under which a space holds a send or receive right of a port, the least if there were several.
+    /// Returns the name under which a space holds a send or receive right of a port. If there were several, it would be
+    /// the least one.
     pub fn name_of_port(&self, space: u32, port: u64) -> Option<u32>
         ensures { result ≡ name_of_port (names_of self.now.current space) port }
     {
@@ -29,7 +30,7 @@ impl Spaces {
         }
     }
 
-    /// Whether a space holds a send or receive right of a port under a name other than this one.
+    /// Returns true if a space holds a send or receive right of a port under another name than this one.
     pub fn stands_elsewhere(&self, space: u32, name: u32, port: u64) -> bool
         ensures { result ≡ stands_elsewhere (names_of self.now.current space) name port }
     {
@@ -39,8 +40,8 @@ impl Spaces {
         }
     }
 
-    /// Whether a name may be given out in a space: it is neither `MACH_PORT_NULL` nor `MACH_PORT_DEAD`, and isn't in
-    /// use.
+    /// Returns true if a name may be given to a right in a space: it is neither `MACH_PORT_NULL` nor `MACH_PORT_DEAD`,
+    /// and isn't in use.
     pub fn is_unused(&self, space: u32, name: u32) -> bool
         ensures { IsTrue result ↔ IsUnused (names_of self.now.current space) name }
     {
@@ -50,7 +51,7 @@ impl Spaces {
         }
     }
 
-    /// The least name from `FIRST_NAME` on that a space doesn't use. There always is one.
+    /// Returns the least name from `FIRST_NAME` on that a space doesn't use. There is always one.
     pub fn free_name(&self, space: u32) -> u32
         ensures unused { IsUnused (names_of self.now.current space) result }
         ensures from { FIRST_NAME ≤ result }
@@ -63,7 +64,7 @@ impl Spaces {
     }
 }
 
-/// Whether this is neither `MACH_PORT_NULL` nor `MACH_PORT_DEAD`.
+/// Returns true if this is neither `MACH_PORT_NULL` nor `MACH_PORT_DEAD`.
 fn is_a_name(name: u32) -> bool
     ensures { IsTrue result ↔ ((0 < name) × (name < MACH_PORT_DEAD)) }
 {

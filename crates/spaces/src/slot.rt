@@ -10,7 +10,7 @@ use port_space::PortSpace;
 use std::alloc::{AllocError, Global};
 use std::marker::Model;
 
-/// A slot, which may hold a space or not, whose changes are committed or rolled back.
+/// A slot for a space, which may be empty. Changes are committed or rolled back.
 #[derive(Drop)]
 pub(crate) struct Space {
     names: PortSpace,
@@ -38,7 +38,7 @@ impl Model for Space {
 }
 
 impl Space {
-    /// A slot without a space. It takes no memory.
+    /// Creates an empty slot. It allocates nothing.
     pub(crate) fn new(alloc: Global) -> Self
         ensures { result ≡ slot_at_rest None }
     {
@@ -49,28 +49,28 @@ impl Space {
         }
     }
 
-    /// The names of the space, if it exists.
+    /// Returns the names of the space, if it exists.
     pub(crate) fn names(&self) -> Option<&PortSpace>
         ensures { option_map (λ names. names.current) (option_copied result) ≡ self.now.current }
     {
         self.is_there.then_some(&self.names)
     }
 
-    /// Whether the space exists.
+    /// Returns true if the space exists.
     pub(crate) fn is_there(&self) -> bool
         ensures { result ≡ is_some self.now.current }
     {
         self.is_there
     }
 
-    /// Whether the space existed before.
+    /// Returns true if the space existed at the last commit or rollback.
     pub(crate) fn was_there(&self) -> bool
         ensures { result ≡ is_some self.now.before }
     {
         self.was_there
     }
 
-    /// Makes a space without names, if there is none.
+    /// Adds a space without names to an empty slot.
     pub(crate) fn open(&mut self)
         requires { self.old.current ≡ None }
         ensures { self.new ≡ record self.old { current = Some map.empty } }
@@ -86,7 +86,7 @@ impl Space {
         self.is_there = false;
     }
 
-    /// Makes a name stand for this, if the space exists, and returns what it stood for. If an allocation fails, the
+    /// Replaces the entry of a name, if the space exists, and returns the former one. If an allocation fails, the
     /// changes are rolled back.
     pub(crate) fn put(&mut self, name: u32, entry: Entry) -> Result<Option<Entry>, AllocError>
         requires room { (names : Names) → self.old.current ≡ Some names → map.get names name ≡ None
@@ -110,7 +110,7 @@ impl Space {
         }
     }
 
-    /// Takes a name out of use, and returns what it stood for. If an allocation fails, the changes are rolled back.
+    /// Removes a name, and returns its entry. If an allocation fails, the changes are rolled back.
     pub(crate) fn remove(&mut self, name: u32) -> Result<Option<Entry>, AllocError>
         ensures former { IfOk result (λ former. former ≡ option_and_then
             (λ names. map.get names name) self.old.current) }
@@ -131,7 +131,7 @@ impl Space {
         }
     }
 
-    /// Commits the changes. It takes no memory.
+    /// Commits the changes. It allocates nothing.
     pub(crate) fn commit(&mut self)
         ensures { self.new ≡ slot_at_rest self.old.current }
     {
@@ -139,7 +139,7 @@ impl Space {
         self.was_there = self.is_there;
     }
 
-    /// Rolls the changes back. It takes no memory.
+    /// Rolls the changes back. It allocates nothing.
     pub(crate) fn roll_back(&mut self)
         ensures { self.new ≡ slot_at_rest self.old.before }
     {

@@ -1,4 +1,4 @@
-// What is done to one slot, or to those that were touched.
+// Operations on one slot, or on the touched ones.
 ghost use Rattle.std.specs.Prelude.{◌≡◌, ◌<◌, [], None, Some, IfOk, OnOk, OnErr, IfSome, option_map};
 ghost use Rattle.std.specs.FinMap as map;
 ghost use Rattle.codes.specs.declared.limits.TheConstants.{MAX_NAMES};
@@ -13,7 +13,7 @@ use ipc_model::Entry;
 use number_table::NumberTable;
 use std::alloc::{AllocError, Global};
 
-/// Makes a space without names if there is none.
+/// Adds a space without names if the slot is empty.
 pub(crate) fn open_at(
     alloc: Global,
     slots: &mut NumberTable<Space>,
@@ -44,7 +44,7 @@ pub(crate) fn close_at(slots: &mut NumberTable<Space>, space: u32)
     }
 }
 
-/// Makes a name of a space stand for this, and returns what it stood for. If an allocation fails, the changes of the
+/// Replaces the entry of a name in a space, and returns the former one. If an allocation fails, the changes of the
 /// space are rolled back.
 pub(crate) fn put_at(
     slots: &mut NumberTable<Space>,
@@ -66,8 +66,8 @@ pub(crate) fn put_at(
     }
 }
 
-/// Takes a name of a space out of use, and returns what it stood for. If an allocation fails, the changes of the space
-/// are rolled back.
+/// Removes a name from a space, and returns its entry. If an allocation fails, the changes of the space are rolled
+/// back.
 pub(crate) fn remove_at(
     slots: &mut NumberTable<Space>,
     space: u32,

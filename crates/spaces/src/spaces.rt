@@ -19,8 +19,8 @@ use ipc_model::Entry;
 use std::alloc::{AllocError, Global};
 use std::marker::Model;
 
-/// The spaces with their names, and for each port the names that have to do with it. Changes are committed or rolled
-/// back. Contracts see the spaces as they were at the last commit or rollback, and as they are. A change whose
+/// The spaces with their names, and an index from each port to the names with rights to it. Changes are committed or
+/// rolled back. Contracts see the spaces at the last commit or rollback, and the current ones. A change whose
 /// allocation fails rolls all changes back.
 #[derive(Drop)]
 pub struct Spaces {
@@ -48,7 +48,7 @@ impl Model for Spaces {
 }
 
 impl Spaces {
-    /// No spaces. It takes no memory.
+    /// Creates a table without spaces. It allocates nothing.
     pub fn new(alloc: Global) -> Self
         ensures { result ≡ spaces_at_rest map.empty }
     {
@@ -58,21 +58,21 @@ impl Spaces {
         }
     }
 
-    /// How many spaces there are.
+    /// Returns the number of spaces.
     pub fn len(&self) -> usize
         ensures { result ≡ map.len self.now.current }
     {
         self.table.len()
     }
 
-    /// Whether a space exists.
+    /// Returns true if a space exists.
     pub fn contains(&self, space: u32) -> bool
         ensures { result ≡ is_some (map.get self.now.current space) }
     {
         self.table.contains(space)
     }
 
-    /// The least number that no space has. There is one while there are fewer spaces than allowed.
+    /// Returns the least unused number of a space. There is one while there are fewer spaces than `MAX_SPACES`.
     pub fn free_number(&self) -> u32
         requires room { map.len self.now.current < MAX_SPACES }
         ensures { IsFreeNumber self.now.current result }
@@ -80,7 +80,7 @@ impl Spaces {
         self.table.free_number()
     }
 
-    /// What a name of a space stands for, if it is in use.
+    /// Returns the entry of a name in a space, if it is in use.
     pub fn entry(&self, space: u32, name: u32) -> Option<Entry>
         ensures value { result ≡ entry_in self.now.current space name }
         ensures few { IfSome result AreFewReferences }
@@ -88,7 +88,7 @@ impl Spaces {
         entry_of(&self.table, space, name)
     }
 
-    /// Makes a name of a space stand for this, if the space exists, and returns what it stood for. If an allocation
+    /// Replaces the entry of a name in a space, if the space exists, and returns the former one. If an allocation
     /// fails, the changes are rolled back.
     pub fn put_name(
         &mut self,
@@ -120,8 +120,7 @@ impl Spaces {
         }
     }
 
-    /// Takes a name of a space out of use, and returns what it stood for. If an allocation fails, the changes are
-    /// rolled back.
+    /// Removes a name from a space, and returns its entry. If an allocation fails, the changes are rolled back.
     pub fn remove_name(&mut self, space: u32, name: u32) -> Result<Option<Entry>, AllocError>
         ensures former { IfOk result (λ former. former ≡ entry_in self.old.current space name) }
         ensures few { IfOk result (λ former. IfSome former AreFewReferences) }
@@ -142,8 +141,7 @@ impl Spaces {
         }
     }
 
-    /// Makes a space without names under a number that no space has. If an allocation fails, the changes are rolled
-    /// back.
+    /// Adds a space without names under an unused number. If an allocation fails, the changes are rolled back.
     pub fn add(&mut self, space: u32) -> Result<(), AllocError>
         requires absent { map.get self.old.current space ≡ None }
         requires room { map.len self.old.current < 2 ^ 32 }
@@ -175,35 +173,35 @@ impl Spaces {
         }
     }
 
-    /// The first place from `from` on whose name stands for a right to a port.
+    /// Returns the first place from `from` on whose name has a right to a port.
     pub fn next_holder(&self, port: u64, from: u64) -> Option<u64>
         ensures { IsNextAt port_named self.now.current port from result }
     {
         lesser(self.next_sharer(port, from), self.next_receiver(port, from))
     }
 
-    /// The first place from `from` on whose name stands for a right to a port other than the receive right.
+    /// Returns the first place from `from` on whose name has a right to a port other than the receive right.
     fn next_sharer(&self, port: u64, from: u64) -> Option<u64>
         ensures { IsNextAt port_shared self.now.current port from result }
     {
         self.indexes.sharers.next(port, from)
     }
 
-    /// The first place from `from` on whose name's dead-name request has a port for its target.
+    /// Returns the first place from `from` on whose name's dead-name request has a port as its target.
     pub fn next_requester(&self, port: u64, from: u64) -> Option<u64>
         ensures { IsNextAt request_of self.now.current port from result }
     {
         self.indexes.requesters.next(port, from)
     }
 
-    /// The first place from `from` on whose name holds the receive right of a port.
+    /// Returns the first place from `from` on whose name holds the receive right of a port.
     pub fn next_receiver(&self, port: u64, from: u64) -> Option<u64>
         ensures { IsNextAt received_port self.now.current port from result }
     {
         self.indexes.receivers.next(port, from)
     }
 
-    /// How many send rights to a port names hold.
+    /// Returns the number of send rights to a port under names.
     pub fn sends(&self, port: u64) -> u64
         ensures value { result ≡ total
             (λ space names. names_weigh (right_weight kind.Send port) names) self.now.current }
@@ -212,7 +210,7 @@ impl Spaces {
         self.indexes.counts.sends(port)
     }
 
-    /// How many send-once rights to a port names hold, and dead-name requests have as targets.
+    /// Returns the number of send-once rights to a port under names and as the targets of dead-name requests.
     pub fn send_onces(&self, port: u64) -> u64
         ensures value { result ≡ total
             (λ space names. names_weigh (right_weight kind.SendOnce port) names) self.now.current }
@@ -221,8 +219,8 @@ impl Spaces {
         self.indexes.counts.send_onces(port)
     }
 
-    /// The places of the names that may have changed since the last commit or rollback. Every other name stands for
-    /// what it stood for then.
+    /// Returns the places of the names that may have changed since the last commit or rollback. Every other name has
+    /// the same entry as then.
     pub fn changed_places(&self) -> &[u64]
         ensures noted { AreNoted self.now.before self.now.current result.now }
         ensures small { AreSmall self.now.before × AreSmall self.now.current }
@@ -230,7 +228,7 @@ impl Spaces {
         self.indexes.changed.as_slice()
     }
 
-    /// Commits the changes. It takes no memory.
+    /// Commits the changes. It allocates nothing.
     pub fn commit(&mut self)
         ensures { self.new ≡ spaces_at_rest self.old.current }
     {
@@ -238,7 +236,7 @@ impl Spaces {
         self.indexes.commit();
     }
 
-    /// Rolls the changes back. It takes no memory.
+    /// Rolls the changes back. It allocates nothing.
     pub fn roll_back(&mut self)
         ensures { self.new ≡ spaces_at_rest self.old.before }
     {
@@ -247,7 +245,7 @@ impl Spaces {
     }
 }
 
-/// The lesser of two numbers, if there are two; else the one that there is.
+/// Returns the lesser of two numbers, the only one, or `None`.
 fn lesser(one: Option<u64>, other: Option<u64>) -> Option<u64>
     ensures { result ≡ lesser one other }
 {
@@ -258,14 +256,14 @@ fn lesser(one: Option<u64>, other: Option<u64>) -> Option<u64>
     }
 }
 
-/// The number of a name in a space.
+/// Returns the place of a name in a space.
 fn place(space: u32, name: u32) -> u64
     ensures { result ≡ place space name }
 {
     u64::from(space) * (1 << 32) + u64::from(name)
 }
 
-/// What a name of a space stands for, if it is in use.
+/// Returns the entry of a name in a space, if it is in use.
 fn entry_of(table: &SpaceTable, space: u32, name: u32) -> Option<Entry>
     ensures value { result ≡ entry_in table.now.current space name }
     ensures few { IfSome result AreFewReferences }
@@ -276,7 +274,7 @@ fn entry_of(table: &SpaceTable, space: u32, name: u32) -> Option<Entry>
     }
 }
 
-/// Makes a name stand for this, and returns what it stood for.
+/// Replaces the entry of a name in the table and the indexes, and returns the former one.
 fn put_in_both(
     table: &mut SpaceTable,
     indexes: &mut NameIndexes,
@@ -300,7 +298,7 @@ fn put_in_both(
     Ok(former)
 }
 
-/// Takes a name out of use, and returns what it stood for.
+/// Removes a name from the table and the indexes, and returns its entry.
 fn remove_from_both(
     table: &mut SpaceTable,
     indexes: &mut NameIndexes,

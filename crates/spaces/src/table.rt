@@ -16,13 +16,13 @@ use port_space::PortSpace;
 use std::alloc::{AllocError, Global};
 use std::marker::Model;
 
-/// The spaces with their names, whose changes are committed or rolled back. Contracts see the spaces as they were at
-/// the last commit or rollback, and as they are. A change whose allocation fails rolls all changes back.
+/// The spaces with their names. Changes are committed or rolled back. Contracts see the spaces at the last commit or
+/// rollback, and the current ones. A change whose allocation fails rolls all changes back.
 #[derive(Drop)]
 pub struct SpaceTable {
     alloc: Global,
     pub(crate) slots: NumberTable<Space>,
-    /// The slots that may have changed.
+    /// The numbers of the slots that may have changed.
     touched: Vec<u32>,
     count: usize,
     count_before: usize,
@@ -51,7 +51,7 @@ impl Model for SpaceTable {
 }
 
 impl SpaceTable {
-    /// No spaces. It takes no memory.
+    /// Creates a table without spaces. It allocates nothing.
     pub fn new(alloc: Global) -> Self
         ensures { result ≡ spaces_at_rest map.empty }
     {
@@ -66,21 +66,21 @@ impl SpaceTable {
         }
     }
 
-    /// How many spaces there are.
+    /// Returns the number of spaces.
     pub fn len(&self) -> usize
         ensures { result ≡ map.len self.now.current }
     {
         self.count
     }
 
-    /// Whether a space exists.
+    /// Returns true if a space exists.
     pub fn contains(&self, space: u32) -> bool
         ensures { result ≡ is_some (map.get self.now.current space) }
     {
         self.names(space).is_some()
     }
 
-    /// The names of a space, if it exists.
+    /// Returns the names of a space, if it exists.
     pub fn names(&self, space: u32) -> Option<&PortSpace>
         ensures { option_map (λ names. names.current) (option_copied result) ≡ map.get self.now.current space }
     {
@@ -90,7 +90,7 @@ impl SpaceTable {
         }
     }
 
-    /// The least number that no space has. There is one while there are fewer spaces than allowed.
+    /// Returns the least unused number of a space. There is one while there are fewer spaces than `MAX_SPACES`.
     pub fn free_number(&self) -> u32
         requires room { map.len self.now.current < MAX_SPACES }
         ensures { IsFreeNumber self.now.current result }
@@ -98,8 +98,7 @@ impl SpaceTable {
         self.numbers.first_free() + 1
     }
 
-    /// Makes a space without names under a number that no space has. If an allocation fails, the changes are rolled
-    /// back.
+    /// Adds a space without names under an unused number. If an allocation fails, the changes are rolled back.
     pub fn add(&mut self, space: u32) -> Result<(), AllocError>
         requires absent { map.get self.old.current space ≡ None }
         requires room { map.len self.old.current < 2 ^ 32 }
@@ -125,7 +124,7 @@ impl SpaceTable {
         }
     }
 
-    /// Makes a name of a space stand for this, if the space exists, and returns what it stood for. If an allocation
+    /// Replaces the entry of a name in a space, if the space exists, and returns the former one. If an allocation
     /// fails, the changes are rolled back.
     pub fn put(&mut self, space: u32, name: u32, entry: Entry) -> Result<Option<Entry>, AllocError>
         requires room { (names : Names) → map.get self.old.current space ≡ Some names → map.get names name ≡ None
@@ -158,8 +157,7 @@ impl SpaceTable {
         }
     }
 
-    /// Takes a name of a space out of use, and returns what it stood for. If an allocation fails, the changes are
-    /// rolled back.
+    /// Removes a name from a space, and returns its entry. If an allocation fails, the changes are rolled back.
     pub fn remove(&mut self, space: u32, name: u32) -> Result<Option<Entry>, AllocError>
         ensures former { IfOk result (λ former. former ≡ entry_in self.old.current space name) }
         ensures few { IfOk result (λ former. IfSome former AreFewReferences) }
@@ -205,7 +203,7 @@ impl SpaceTable {
         Ok(())
     }
 
-    /// Commits the changes. It takes no memory.
+    /// Commits the changes. It allocates nothing.
     pub fn commit(&mut self)
         ensures { self.new ≡ spaces_at_rest self.old.current }
     {
@@ -215,7 +213,7 @@ impl SpaceTable {
         self.numbers_before = self.numbers;
     }
 
-    /// Rolls the changes back. It takes no memory.
+    /// Rolls the changes back. It allocates nothing.
     pub fn roll_back(&mut self)
         ensures { self.new ≡ spaces_at_rest self.old.before }
     {

@@ -9,7 +9,7 @@ use ipc_model::Entry;
 use std::alloc::{AllocError, Global};
 
 impl Spaces {
-    /// The least name of a space from `from` on, with what it stands for.
+    /// Returns the least name of a space from `from` on, with its entry.
     pub fn next_entry(&self, space: u32, from: u64) -> Option<(u32, Entry)>
         ensures next { IsNextEntry (names_of self.now.current space) from result }
         ensures fits { IfSome result (λ e. e.0 < 2 ^ 32) }
@@ -20,7 +20,7 @@ impl Spaces {
         }
     }
 
-    /// The names that a space has in use, in ascending order, each with what it stands for.
+    /// Returns the names that a space has in use, in ascending order, each with its entry.
     pub fn entries(&self, alloc: Global, space: u32) -> Result<Vec<(u32, Entry)>, AllocError>
         ensures { IfOk result (λ entries. entries.items ≡ map.entries (names_of self.now.current space)) }
     {

@@ -1,4 +1,4 @@
--- Slots that no other process writes to: they hold the same at all moments.
+-- Slots that no other process writes have the same contents at all moments.
 use Rattle.std.proofs.Common.{◌≡◌, ℕ, ◌≤◌, List, ◌++◌, length, take, drop, refl, sym, ap, subst, ◌∙◌, append_assoc, take-append-drop, length-append, length-take}
 use Rattle.std.proofs.lemmas.List.{append-nil, drop-drop, drop_all, drop_min}
 use Rattle.std.specs.Prelude.{IfOk, Result, Ok, Err}
@@ -8,7 +8,7 @@ use Rattle.still_disk.specs.declared.fault.CopyFault.{CopyFault}
 use Rattle.still_disk.specs.declared.still.StillDisk.{StillDisk}
 use Rattle.still_disk.specs.Live.{Agree, Copied, FrontsRead, HasChanged, IsCopy, IsReading, SlotsCopied, Tried, fronts_of, nothing_yet, one_piece_more}
 
--- what was read of a slot is the front of it
+-- the bytes read of a slot are its front
 abbrev IsFront : List ℕ → List ℕ → Type 0
 IsFront bytes slot = bytes ++ drop (length bytes) slot ≡ slot
 
@@ -93,16 +93,16 @@ module _ {Moment : Type 0} (Later : Moment → Moment → Type 0) (slots : Momen
       let whole : copies ≡ slots begun = copied.1 ∙ before.0 in
       (whole, (after.1 ∙ ap fronts_of (copied.0 ∙ before.0) ∙ sym before.1, ap fronts_of whole ∙ sym before.1))
 
-  -- copies are what the slots hold,
+  -- the copies are the contents of the slots
   pub reading_same : (begun ended : Moment) (copies : Slots) → IsReading Later slots begun ended copies
       → copies ≡ slots begun
   reading_same begun ended copies reading = (tried_same begun ended reading.0 copies reading.1 reading.2).0
 
-  -- and nothing changes
+  -- nothing changes
   pub never_changes : (begun ended : Moment) → HasChanged Later slots begun ended → ⊥
   never_changes begun ended changed = changed.4 (tried_same begun ended changed.0 changed.1 changed.2 changed.3).1
 
-  -- the copy that was made at one of several tries
+  -- the copy of one of several attempts
   pub copy_is : (result : Result StillDisk CopyFault) (old new : Moment)
       → IfOk result (λ copy. (begun : Moment) × Later old begun × IsReading Later slots begun new (still_slots copy))
       → IfOk result (λ copy. still_slots copy ≡ slots old)

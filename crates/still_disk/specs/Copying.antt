@@ -1,10 +1,10 @@
--- What is read of a store to copy it, and how its failures are counted.
+-- The count of failed calls while a store is copied.
 use Rattle.std.specs.Prelude.{ℕ, Result, Ok, Err}
 use Rattle.disk.specs.Moments.{one_more}
 use Rattle.still_disk.specs.declared.fault.CopyFault.{CopyFault}
 use Rattle.still_disk.specs.declared.fault.CopyFault.TheVariants.{Device, NoMemory, Busy}
 
--- the count of failed calls after a fault, and after a call of a copy: one more if the device failed, else the same
+-- the count of failed calls after a fault: it grows by one if the device failed; and after a result
 abbrev pub counted_fault : CopyFault → ℕ → ℕ
 counted_fault Device failures = one_more failures
 counted_fault NoMemory failures = failures

@@ -1,4 +1,4 @@
--- The beginnings of slots that were read, as slots.
+-- The fronts that were read, as slots.
 use Rattle.disk.specs.Slots.{Slots}
 use Rattle.still_disk.specs.declared.fronts.Fronts.{Fronts}
 

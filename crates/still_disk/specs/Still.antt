@@ -1,4 +1,4 @@
--- A copy in memory, as the model sees it.
+-- A copy in memory as contracts see it.
 use Rattle.std.specs.Prelude.{◌≡◌}
 use Rattle.disk.specs.Moments.{View}
 use Rattle.disk.specs.Slots.{Slots}
@@ -13,6 +13,6 @@ still_slots copy = record {
   segment1 = copy.segment1.items;
 }
 
--- the disk over time, which never changes: a read gives these bytes, and a crash leaves them
+-- the disk over time, which never changes: reads and crashes give these bytes
 abbrev pub still_view : StillDisk → View
 still_view copy = record { seen = still_slots copy; moment = 0; left_at = λ k c. c ≡ still_slots copy }

@@ -1,4 +1,4 @@
-// A copy of a store's slots during which no slot's front changed.
+// Copies a store's slots while no slot's front changes.
 ghost use Rattle.std.specs.Prelude.{◌≡◌, ◌≢◌, ◌<◌, Err, IfErr, IfNone, IfOk, IfSome, IsErrOf, length};
 ghost use Rattle.disk.specs.Moments.{ReadsOnly};
 ghost use Rattle.still_disk.specs.Copying.{counted};
@@ -11,13 +11,13 @@ use crate::{CopyFault, LiveSlots, StillDisk};
 use disk::{Disk, Slot};
 use std::alloc::Global;
 
-/// How many times a copy is tried.
+/// Maximum number of attempts.
 const MOST_TRIES: u32 = 100;
 
-/// How many bytes are read at a time.
+/// Number of bytes that are read at a time.
 const PIECE: usize = 65536;
 
-/// What the four slots hold, one after another.
+/// Reads the contents of the four slots, one after another.
 fn read_slots<S: LiveSlots>(
     alloc: Global,
     live: &mut S,
@@ -40,7 +40,7 @@ fn read_slots<S: LiveSlots>(
     })
 }
 
-/// What the slots hold, if the fronts before and after the reading are the same as the copy's own.
+/// Copies the slots. Returns `None` unless the fronts before and after the copy are the same as the copy's own.
 fn try_copy<S: LiveSlots>(
     alloc: Global,
     live: &mut S,
@@ -68,7 +68,7 @@ fn try_copy<S: LiveSlots>(
     }
 }
 
-/// A copy, read into a buffer piece by piece, and tried up to `MOST_TRIES` times.
+/// Returns a copy, read piece by piece into a buffer, after up to `MOST_TRIES` attempts.
 fn copy_by<S: LiveSlots>(
     alloc: Global,
     live: &mut S,
@@ -92,15 +92,16 @@ fn copy_by<S: LiveSlots>(
     Err(CopyFault::Busy)
 }
 
-/// Copies a store's slots into memory, also while a server goes on with the store. Nothing is written to the store.
+/// Copies a store's slots into memory, even while a server continues with the store. Nothing is written to the store.
 ///
-/// A server writes to a slot in use only after its batches, and writes a whole batch before it opens its gate. If a
-/// slot is read from its front to its end meanwhile, all batches are there whose gates were open when that began, and
-/// any further ones are whole. A slot is written over only once its front has changed, to another gate or another
-/// epoch, and epochs only grow. So if the fronts of all four are the same after the reading as before it, the copies
-/// stand for a state that the store had meanwhile (`live_reading::copies_stand`).
+/// A server writes to a slot in use only after its batches, and writes a whole batch before it opens the batch's gate.
+/// So a copy that is read from the slot's front to its end has all batches whose gates were open at the start, and any
+/// later batch in it is whole. A slot is overwritten only after its front has changed to another gate or epoch, and
+/// epochs only grow. So if the fronts of all four slots are the same before and after the copy, the copy represents a
+/// state that the store had meanwhile (`live_reading::copies_stand`, which assumes that at most one epoch ended
+/// meanwhile).
 ///
-/// `Device`: the device failed. `NoMemory`: out of memory. `Busy`: a front changed during each of a hundred tries.
+/// `Device`: the device failed. `NoMemory`: out of memory. `Busy`: a front changed during each of a hundred attempts.
 pub fn live_copy<S: LiveSlots>(alloc: Global, live: &mut S) -> Result<StillDisk, CopyFault>
     ensures reading { S.honest → IfOk result
         (λ copy. (begun : S.Moment) × S.later (S.now live.old) begun
@@ -115,7 +116,7 @@ pub fn live_copy<S: LiveSlots>(alloc: Global, live: &mut S) -> Result<StillDisk,
     copy_by(alloc, live, &mut piece)
 }
 
-/// What `live_copy` returns for a disk that nobody else writes to: what its slots hold. `Busy` never comes then.
+/// Copies the slots of a disk that nobody else writes to. It is `live_copy`, but never returns `Busy`.
 pub fn still_copy<D: Disk>(alloc: Global, disk: &mut D) -> Result<StillDisk, CopyFault>
     ensures slots { D.honest → IfOk result (λ copy. still_slots copy ≡ (D.view disk.old).seen) }
     ensures unfailed { IfOk result (λ copy. ⟦<StillDisk as Disk>⟧.failed_calls copy ≡ 0) }

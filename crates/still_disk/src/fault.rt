@@ -1,14 +1,14 @@
 use disk::DiskFault;
 use std::alloc::AllocError;
 
-/// Why there is no copy of a store.
+/// The reason why a store couldn't be copied.
 #[derive(Clone, Copy, Debug, PartialEq, Eq)]
 pub enum CopyFault {
     /// The device failed.
     Device,
     /// Out of memory.
     NoMemory,
-    /// During each try a slot's front changed.
+    /// A slot's front changed during each attempt.
     Busy,
 }
 

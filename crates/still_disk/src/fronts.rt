@@ -1,4 +1,4 @@
-// The fronts of the slots: the part of them that changes before what stands after it is written over.
+// The fronts of the slots. A front changes before the bytes after it are overwritten.
 ghost use Rattle.std.specs.Prelude.{◌≡◌, ◌≢◌, ◌↔◌, ◌≤◌, IfErr, IfOk, IsTrue, take};
 ghost use Rattle.disk.specs.Slots.{slot_of};
 ghost use Rattle.still_disk.specs.Copying.{counted};
@@ -10,7 +10,7 @@ use disk::Slot;
 use slot_steps::{IMAGE_HEADER, SEGMENT_HEADER};
 use std::alloc::Global;
 
-/// The front of each slot: as many bytes as its header has, or as there are.
+/// The front of each slot: the length of its header, or the whole slot if that is shorter.
 #[derive(Drop)]
 pub(crate) struct Fronts {
     pub(crate) image0: Vec<u8>,
@@ -20,7 +20,7 @@ pub(crate) struct Fronts {
 }
 
 impl Fronts {
-    /// Whether these are the same fronts.
+    /// Returns true if the fronts are equal.
     pub(crate) fn are(&self, others: &Fronts) -> bool
         ensures { IsTrue result ↔ (front_slots self.now ≡ front_slots others.now) }
     {
@@ -31,7 +31,7 @@ impl Fronts {
     }
 }
 
-/// The front of a slot: `size` bytes, or as many as there are.
+/// Reads the front of a slot: `size` bytes, or the whole slot if that is shorter.
 fn read_front<S: LiveSlots>(
     alloc: Global,
     live: &mut S,
@@ -50,7 +50,7 @@ fn read_front<S: LiveSlots>(
     Ok(front[..count].to_vec(alloc)?)
 }
 
-/// The fronts of the four slots.
+/// Reads the fronts of the four slots.
 pub(crate) fn read_fronts<S: LiveSlots>(alloc: Global, live: &mut S) -> Result<Fronts, CopyFault>
     ensures fronts { S.honest → IfOk result
         (λ fronts. FrontsRead S.later S.slots (S.now live.old) (S.now live.new) (front_slots fronts)) }

@@ -1,4 +1,4 @@
-//! A copy in memory of the four slots of a store, which stays as it is while the store goes on.
+//! A copy in memory of the four slots of a store, which doesn't change while the store does.
 #![tactic(auto)]
 
 mod copying;

@@ -1,17 +1,17 @@
-// Slots that may be written to while they are read.
+// Slots that may be written while they are read.
 ghost use Rattle.std.specs.Prelude.{◌≡◌, ◌-◌, ◌≤◌, ◌++◌, ℕ, length, take, drop, min, IfOk};
 ghost use Rattle.disk.specs.Moments.{CountsFailure};
 ghost use Rattle.disk.specs.Slots.{Slots, slot_of};
 
 use disk::{Disk, DiskFault, Slot};
 
-/// The slots of a store, which may be written to while they are read: a read returns what a slot holds at a moment of
-/// its own.
+/// The slots of a store, which may be written while they are read. Each read returns the contents of a slot at a moment
+/// of its own.
 pub trait LiveSlots {
-    /// The premise that a read returns what stands in a slot.
+    /// Premise: a read returns the contents of the slot.
     ghost honest: { Type 0 };
 
-    /// The moments, of which one may be later than another.
+    /// The moments, ordered by `later`.
     ghost Moment: { Type 0 };
 
     ghost later: { Moment → Moment → Type 0 };
@@ -20,17 +20,17 @@ pub trait LiveSlots {
 
     ghost joins: { (a b c : Moment) → later a b → later b c → later a c };
 
-    /// What the slots hold at a moment.
+    /// The contents of the slots at a moment.
     ghost slots: { Moment → Slots };
 
     /// The moment of the last read.
     ghost now: { Self → Moment };
 
-    /// How many calls have failed.
+    /// Number of failed calls.
     ghost failed: { Self → ℕ };
 
-    /// Reads from `at` on into the buffer, and returns how many bytes came. It returns less than the buffer has room
-    /// for only at the slot's end.
+    /// Reads from offset `at` on into the buffer, and returns the number of bytes. It is less than the length of the
+    /// buffer only at the slot's end.
     fn read_live(&mut self, slot: Slot, at: u64, buffer: &mut [u8]) -> Result<usize, DiskFault>
         ensures later { honest → later (now self.old) (now self.new) }
         ensures count { honest → IfOk result
@@ -41,7 +41,7 @@ pub trait LiveSlots {
         ensures failures { CountsFailure (failed self.old) (failed self.new) result };
 }
 
-/// If nobody else writes to a disk, its slots hold the same at all moments, and none of them is written to.
+/// If nobody else writes to a disk, its slots have the same contents at all moments.
 impl<D: Disk> LiveSlots for D {
     ghost use Rattle.disk.proofs.Moments.{reads_nothing, reads_then};
     ghost use Rattle.disk.specs.Moments.{ReadsOnly};

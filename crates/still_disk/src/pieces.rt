@@ -1,4 +1,4 @@
-// What a slot holds, read from its front to its end.
+// Reads a slot from its front to its end.
 ghost use Rattle.std.specs.Prelude.{◌≡◌, ◌≢◌, ◌+◌, ◌<◌, ◌≤◌, length, IfErr, IfOk, OnOk};
 ghost use Rattle.disk.specs.Slots.{slot_of};
 ghost use Rattle.still_disk.specs.Copying.{counted};
@@ -8,7 +8,7 @@ use crate::{CopyFault, LiveSlots};
 use disk::Slot;
 use std::alloc::Global;
 
-/// Reads the next piece of a slot after the bytes that were read of it, and returns how many came.
+/// Reads the next piece of a slot, and returns its length.
 fn read_on<S: LiveSlots>(
     live: &mut S,
     slot: Slot,
@@ -31,11 +31,11 @@ fn read_on<S: LiveSlots>(
     Ok(count)
 }
 
-/// All bytes of a slot, read into a buffer piece by piece.
+/// Reads all bytes of a slot into a buffer, piece by piece.
 ///
-/// It reads until a read returns nothing, and not up to the slot's length: a server that appends to a segment writes a
-/// whole batch before it opens its gate. So if a gate was read open, what stands after it is there for the next read,
-/// even past what the length was.
+/// It reads until a read returns nothing, instead of up to the slot's length at the start. A server that appends to a
+/// segment writes a whole batch before it opens the batch's gate. So if a gate was read open, the next read returns the
+/// bytes after it, even beyond the former length.
 pub(crate) fn read_slot<S: LiveSlots>(
     alloc: Global,
     live: &mut S,

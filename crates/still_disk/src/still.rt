@@ -11,7 +11,7 @@ use disk::{Disk, DiskFault, Slot};
 use slot_steps::{IMAGE_HEADER, SEGMENT_HEADER};
 use std::alloc::{AllocError, Global};
 
-/// Four slots in memory. Nobody writes to them: a write and a truncation fail, and change nothing.
+/// Four slots in memory. Writes and truncations fail and change nothing.
 pub struct StillDisk {
     pub(crate) image0: Vec<u8>,
     pub(crate) image1: Vec<u8>,
@@ -20,7 +20,7 @@ pub struct StillDisk {
     pub(crate) failures: u64,
 }
 
-// Written out, so that proofs above know one function and not its parts.
+// Written by hand, so that proofs of the crates above depend on one function instead of its parts.
 impl Drop for StillDisk {
     fn drop(self) {
         let StillDisk {
@@ -49,7 +49,7 @@ impl StillDisk {
         }
     }
 
-    /// The fronts of the slots.
+    /// Copies the fronts of the slots.
     pub(crate) fn fronts(&self, alloc: Global) -> Result<Fronts, AllocError>
         ensures { IfOk result (λ fronts. front_slots fronts ≡ fronts_of (still_slots self.now)) }
     {
@@ -70,14 +70,14 @@ impl StillDisk {
     }
 }
 
-/// The front of these bytes: `size` of them, or as many as there are.
+/// Copies the front of these bytes: `size` of them, or all if there are fewer.
 fn front_of(alloc: Global, bytes: &[u8], size: usize) -> Result<Vec<u8>, AllocError>
     ensures { IfOk result (λ front. front.items ≡ take size bytes.now) }
 {
     bytes[..size.min(bytes.len())].to_vec(alloc)
 }
 
-/// Copies these bytes from a place on, as far as the buffer has room.
+/// Copies bytes from offset `at` on into the buffer, and returns the number of bytes.
 fn fill(buffer: &mut [u8], bytes: &[u8], at: u64) -> usize
     ensures count { result ≡ min (length buffer.old) (length bytes.now - at) }
     ensures bytes { buffer.new ≡ take result (drop at bytes.now) ++ drop result buffer.old }

@@ -1,4 +1,4 @@
--- The numbers and the lines of text of the store's faults.
+-- The numbers and the messages of the store's faults.
 use Rattle.std.specs.Prelude.{ℕ, List, codes}
 use Rattle.store_fault.specs.declared.fault.StoreFault.{StoreFault}
 use Rattle.store_fault.specs.declared.fault.StoreFault.TheVariants.{Device, Full, Damaged, NoMemory, Failed, Version}
@@ -19,7 +19,7 @@ fault_text NoMemory = codes "no memory"
 fault_text Failed = codes "failed"
 fault_text Version = codes "version"
 
--- a fault's line of errors
+-- the line that a program prints for a fault
 abbrev pub fault_line : StoreFault → List ℕ
 fault_line Device = codes "store fault 1: device\n"
 fault_line Full = codes "store fault 2: full\n"

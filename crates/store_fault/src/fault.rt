@@ -5,32 +5,32 @@ use disk::DiskFault;
 use std::alloc::{AllocError, AllocFailed};
 use std::fmt;
 
-/// Why a store couldn't be opened or written.
+/// The reason why a store couldn't be opened or written.
 #[derive(Clone, Copy, Debug, PartialEq, Eq)]
 pub enum StoreFault {
     /// The device failed.
     Device = 1,
-    /// The segment holds as many records as it may.
+    /// The segment has the maximum number of records.
     Full = 2,
-    /// The slots are not as a server leaves them.
+    /// The slots aren't as a server leaves them.
     Damaged = 3,
     /// Out of memory; nothing changed.
     NoMemory = 4,
-    /// The device failed before; the store has to be opened again.
+    /// The device failed before; the store must be opened again.
     Failed = 5,
-    /// A slot is of another version.
+    /// A slot has an unknown version.
     Version = 6,
 }
 
 impl StoreFault {
-    /// The fault's number.
+    /// Returns the fault's number.
     pub fn number(self) -> u8
         ensures { result ≡ fault_number self }
     {
         self as u8
     }
 
-    /// The fault as a line of errors, after the name of a program: its kind, its number and its text.
+    /// Returns the fault as the line that a program prints after its own name: its kind, its number and its text.
     pub fn line(self) -> &'static str
         ensures { result.now ≡ fault_line self }
     {

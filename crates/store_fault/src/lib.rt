@@ -1,4 +1,4 @@
-//! Why a store couldn't be opened or written, with the numbers and words that programs print.
+//! The reasons why a store couldn't be opened or written, with the numbers and messages that programs print.
 #![tactic(auto)]
 
 mod fault;

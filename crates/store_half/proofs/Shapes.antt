@@ -10,7 +10,7 @@ use Rattle.journal.specs.declared.segment.Segment.{Segment}
 use Rattle.slot_steps.specs.Steps.{image_slot, segment_slot}
 use Rattle.store_half.specs.Values.{AreEpochs, AreMade, CheckpointValue, HasShape}
 
--- a closed gate stands after a batch
+-- a slot with a batch isn't empty
 batch_some : (bytes content : List ℕ) → 0 < length (with_batch bytes content)
 batch_some bytes content =
     omega (arith, length-append (take (length bytes - 1) bytes) (open_gate ∷ (content ++ closed_gate ∷ [])))
@@ -32,7 +32,7 @@ apart true false s bytes = refl
 apart false true s bytes = refl
 apart false false s bytes = refl
 
--- a segment's slot is no image's
+-- a segment's slot isn't an image's
 image_kept : (e f : ℕ) (s : Slots) (bytes : List ℕ)
     → slot_of (with_slot s (segment_slot e) bytes) (image_slot f) ≡ slot_of s (image_slot f)
 image_kept e f s bytes = apart (e % 2 == 0) (f % 2 == 0) s bytes

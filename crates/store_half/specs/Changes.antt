@@ -1,4 +1,4 @@
--- What each step of the half that stores does, on one slot.
+-- The effect of each step of the store half, on one slot.
 use Rattle.std.specs.Prelude.{◌≡◌, ◌⊎◌, ℕ, ◌+◌, ◌<◌, ◌^◌, Bool, true, false, [], ◌∷◌, ◌++◌, Option, None, Some, Result, length, take, drop, IfErr, IfNone, IfOk, IfSome, MatchBool}
 use Rattle.checkpoint.specs.Images.{IsFinishing, open_image}
 use Rattle.disk.specs.Moments.{View, Follows, IsSynced, Passes}
@@ -12,17 +12,17 @@ use Rattle.slot_steps.specs.Steps.{ClearsSlot, FindsSlotClear, HasSomeGate, IsCl
 use Rattle.store_half.specs.declared.clearing.TheConstants.{CLEARED_BYTES}
 use Rattle.store_half.specs.Values.{CheckpointValue, StoreValue}
 
--- the post-crash contents while a batch is appended to an epoch's segment
+-- the contents after a crash while a batch is appended to an epoch's segment
 abbrev pub PassesAppend : ℕ → View → View → BatchValue → Type 0
 PassesAppend epoch old new batch =
     Passes old new (Follows old (segment_slot epoch) (λ before after. IsMidAppend before (content_of batch) after))
 
--- a batch stands in an epoch's segment, after what stood there before
+-- a batch was appended to an epoch's segment
 abbrev pub IsAppended : ℕ → Slots → Slots → BatchValue → Type 0
 IsAppended epoch old new batch =
     new ≡ with_slot old (segment_slot epoch) (with_batch (slot_of old (segment_slot epoch)) (content_of batch))
 
--- which step of a checkpoint comes next
+-- The next step of a checkpoint.
 
 abbrev pub IsRolled : Option CheckpointValue → ℕ → Type 0
 IsRolled None steps = ⊥
@@ -49,7 +49,7 @@ CanFinish (Some checkpoint) = (checkpoint.imaged ≡ pieces_of checkpoint.encodi
 abbrev pub CanClear : {D : Type 0} → StoreValue D → Type 0
 CanClear store = (store.checkpoint ≡ None) × (store.segment.epoch + 1 < 2 ^ 64)
 
--- what a step of a checkpoint returns
+-- The results of a checkpoint's steps.
 
 -- A step that isn't possible now changes nothing.
 abbrev pub IsNotNow : {D : Type 0} → StoreValue D → Type 0 → StoreValue D → Type 0
@@ -59,22 +59,22 @@ IsNotNow old possible new = (old.failed ≡ false) × (possible → ⊥) × (new
 abbrev pub IsFault : {D : Type 0} → StoreValue D → StoreFault → Type 0 → StoreValue D → Type 0
 IsFault old fault fails new = ((fault ≡ Failed) × (old.failed ≡ true) × (new ≡ old)) ⊎ ((fault ≡ Device) × fails)
 
--- the same for a step that allocates: or it ran out of memory, and nothing changed
+-- the same for a step that allocates: it may also run out of memory, and then nothing changed
 abbrev pub IsFaultOrShortage : {D : Type 0} → StoreValue D → StoreFault → Type 0 → Type 0 → StoreValue D → Type 0
 IsFaultOrShortage old fault possible fails new =
     IsFault old fault fails new ⊎ ((fault ≡ NoMemory) × (old.failed ≡ false) × possible × (new ≡ old))
 
--- A step says whether it was done; otherwise it isn't possible now.
+-- A step returns true if it was done, and false if it isn't possible now.
 abbrev pub IsDoneIf : {D : Type 0} → StoreValue D → (possible done : Type 0) → StoreValue D → Result Bool StoreFault
     → Type 0
 IsDoneIf old possible done new result = IfOk result (λ is_done. MatchBool is_done done (IsNotNow old possible new))
 
--- Without a receipt the checkpoint can't end yet.
+-- The image isn't finished, because that isn't possible now.
 abbrev pub FinishNotNow : {D : Type 0} → StoreValue D → StoreValue D → Result (Option ℕ) StoreFault → Type 0
 FinishNotNow old new result = IfOk result (λ receipt. IfNone receipt (IsNotNow old (CanFinish old.checkpoint) new))
 
 module _ {D : Type 0} (honest : Type 0) (view : D → View) where
-  -- The next segment's slot has a closed gate.
+  -- The gate of the next segment's slot is closed.
   pub record RollsClose (old new : StoreValue D) : Type 0 where
     pub checkpoint : CheckpointValue
     pub under_way : old.checkpoint ≡ Some checkpoint
@@ -91,7 +91,7 @@ module _ {D : Type 0} (honest : Type 0) (view : D → View) where
         → Passes (view old.disk) (view new.disk)
         (Follows (view old.disk) (segment_slot checkpoint.epoch) (IsClosing 16))
 
-  -- Its header stands after the gate, and a closed gate after the header.
+  -- The next segment's header is written after the gate, and a closed gate after the header.
   pub record RollsHead (old new : StoreValue D) : Type 0 where
     pub checkpoint : CheckpointValue
     pub under_way : old.checkpoint ≡ Some checkpoint
@@ -105,7 +105,7 @@ module _ {D : Type 0} (honest : Type 0) (view : D → View) where
     pub passes : honest → IsShut (view old.disk) (segment_slot checkpoint.epoch)
         → Passes (view old.disk) (view new.disk) (Follows (view old.disk) (segment_slot checkpoint.epoch) IsStillClosed)
 
-  -- It is open: the next epoch's batches are stored there from now on.
+  -- The next segment is open: the next epoch's batches are stored there from now on.
   pub record RollsOpen (old new : StoreValue D) : Type 0 where
     pub checkpoint : CheckpointValue
     pub under_way : old.checkpoint ≡ Some checkpoint
@@ -138,7 +138,7 @@ module _ {D : Type 0} (honest : Type 0) (view : D → View) where
     pub passes : honest → IsSynced (view old.disk) (image_slot checkpoint.epoch)
         → Passes (view old.disk) (view new.disk) (Follows (view old.disk) (image_slot checkpoint.epoch) (IsClosing 24))
 
-  -- One more piece of the image stands in the slot.
+  -- One more piece of the image is in the slot.
   pub record WritesPiece (old new : StoreValue D) : Type 0 where
     pub checkpoint : CheckpointValue
     pub under_way : old.checkpoint ≡ Some checkpoint
@@ -172,7 +172,7 @@ module _ {D : Type 0} (honest : Type 0) (view : D → View) where
         → Passes (view old.disk) (view new.disk)
         (Follows (view old.disk) (image_slot checkpoint.epoch) (IsFinishing checkpoint.epoch checkpoint.encoding))
 
-  -- The next step clears the slot of the next epoch's segment, outside a checkpoint.
+  -- A step clears the slot of the next epoch's segment, outside a checkpoint.
   pub record Clears (old new : StoreValue D) : Type 0 where
     pub possible : CanClear old
     pub unfailed : old.failed ≡ false
@@ -190,7 +190,7 @@ module _ {D : Type 0} (honest : Type 0) (view : D → View) where
     pub rest : new ≡ record old { disk = new.disk }
     pub finds : honest → FindsSlotClear 16 (view old.disk) (view new.disk) (segment_slot (old.segment.epoch + 1))
 
-  -- The device failed within such a step, which was possible.
+  -- The device failed during such a step, which was possible.
 
   pub record FailsToClear (old new : StoreValue D) : Type 0 where
     pub possible : CanClear old
@@ -258,7 +258,7 @@ module _ {D : Type 0} (honest : Type 0) (view : D → View) where
         → Passes (view old.disk) (view new.disk)
         (Follows (view old.disk) (image_slot checkpoint.epoch) (IsFinishing checkpoint.epoch checkpoint.encoding))
 
-  -- What each step returns where the device doesn't fail: whether it was done.
+  -- The result of each step unless it fails.
 
   abbrev pub ClearDone : StoreValue D → StoreValue D → Result Bool StoreFault → Type 0
   ClearDone old new result =
@@ -279,12 +279,12 @@ module _ {D : Type 0} (honest : Type 0) (view : D → View) where
   abbrev pub WritePieceDone : StoreValue D → StoreValue D → Result Bool StoreFault → Type 0
   WritePieceDone old new result = IsDoneIf old (HasPieceLeft old.checkpoint) (WritesPiece old new) new result
 
-  -- at the end the receipt of the epoch's image
+  -- the last step returns the epoch of the image
   abbrev pub FinishDone : StoreValue D → StoreValue D → Result (Option ℕ) StoreFault → Type 0
   FinishDone old new result =
       IfOk result (λ receipt. IfSome receipt (λ finished. (finished ≡ old.segment.epoch) × Finishes old new))
 
-  -- What each step's fault says: the device failed, in this step or an earlier one.
+  -- The fault of each step: the device failed, in this step or an earlier one.
 
   abbrev pub ClearFaults : {T : Type 0} → StoreValue D → StoreValue D → Result T StoreFault → Type 0
   ClearFaults old new result = IfErr result (λ fault. IsFault old fault (FailsToClear old new) new)
@@ -298,7 +298,7 @@ module _ {D : Type 0} (honest : Type 0) (view : D → View) where
   abbrev pub RollOpenFaults : {T : Type 0} → StoreValue D → StoreValue D → Result T StoreFault → Type 0
   RollOpenFaults old new result = IfErr result (λ fault. IsFault old fault (FailsToRollOpen old new) new)
 
-  -- or memory was short
+  -- or out of memory
   abbrev pub CloseImageFaults : {T : Type 0} → StoreValue D → StoreValue D → Result T StoreFault → Type 0
   CloseImageFaults old new result =
       IfErr result (λ fault. IsFaultOrShortage old fault (HasImaged old.checkpoint 0) (FailsToCloseImage old new) new)

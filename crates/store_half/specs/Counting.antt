@@ -1,4 +1,4 @@
--- How a device's count of failures grows by a step: by one where the step says that the device failed, else not at all.
+-- The growth of a device's count of failures by a step: by one if the step reports a failed device, else not at all.
 use Rattle.std.specs.Prelude.{ℕ, Result, Ok, Err}
 use Rattle.disk.specs.Moments.{one_more}
 use Rattle.store_fault.specs.declared.fault.StoreFault.{StoreFault}

@@ -1,4 +1,4 @@
--- What clauses see of the half that stores.
+-- The values of the store half in contracts.
 use Rattle.std.specs.Prelude.{◌≡◌, ℕ, ◌+◌, ◌-◌, ◌<◌, ◌≤◌, Bool, List, Option, None, Some, length, refl}
 use Rattle.std.specs.Coded.{Coded, code_by, coded×, coded_ℕ, coded_bool, coded_list, coded_option}
 use Rattle.checkpoint.specs.Images.{HoldsAfter, first_pieces}
@@ -11,8 +11,8 @@ use Rattle.slot_steps.specs.Steps.{image_slot, segment_slot}
 use Rattle.store_half.specs.declared.under_way.Making.{Making}
 use Rattle.store_half.specs.declared.under_way.Making.TheVariants.{Cut, Image}
 
--- A snapshot of the state at the end of an epoch, as the encoding of an image: the epoch that begins with it, and how
--- many records the log of the epoch before has.
+-- A snapshot of the state at the end of an epoch, as the encoding of an image; the epoch that begins with it; and the
+-- number of records in the log of the epoch before.
 pub record CutValue : Type 0 where
   pub epoch : ℕ
   pub log : ℕ
@@ -23,9 +23,9 @@ cut_code =
     code_by (ℕ × (ℕ × List ℕ)) (coded× coded_ℕ (coded× coded_ℕ (coded_list coded_ℕ)))
     (λ c. (c.epoch, (c.log, c.encoding))) (λ p. record { epoch = p.0; log = p.1.0; encoding = p.1.1 }) (λ _. refl)
 
--- A checkpoint under way: the epoch that begins, how many records the segment of the epoch before has to hold before
--- the next one is opened, how many of the three steps of rotating are done; the encoding of the image, and how many of
--- its steps are done: its slot is closed, and then its pieces are written.
+-- A checkpoint under way: the epoch that begins; the number of records that the former epoch's segment must hold before
+-- the next one is opened; how many of the three steps of rotating are done; the encoding of the image; and how many of
+-- its steps are done, of which the first closes the slot and the others write the pieces.
 pub record CheckpointValue : Type 0 where
   pub epoch : ℕ
   pub log : ℕ
@@ -40,11 +40,11 @@ checkpoint_code =
     (λ c. (c.epoch, (c.log, (c.rolled, (c.encoding, c.imaged)))))
     (λ p. record { epoch = p.0; log = p.1.0; rolled = p.1.1.0; encoding = p.1.1.1.0; imaged = p.1.1.1.1 }) (λ _. refl)
 
--- nothing of a checkpoint is done
+-- a checkpoint of which nothing is done
 abbrev pub begun : CutValue → CheckpointValue
 begun cut = record { epoch = cut.epoch; log = cut.log; rolled = 0; encoding = cut.encoding; imaged = 0 }
 
--- what an image is made from: a snapshot of the state, and once its slot is closed, the encoded image in memory
+-- the encoding of the next image, from the snapshot or from the image in memory
 abbrev pub encoding_of : Making → List ℕ
 encoding_of (Cut snapshot) = snapshot_encoding snapshot
 encoding_of (Image image) = image.encoding
@@ -53,12 +53,12 @@ abbrev pub imaged_of : Making → ℕ
 imaged_of (Cut snapshot) = 0
 imaged_of (Image image) = image.written + 1
 
--- an image in memory is of its epoch
+-- an image in memory is of this epoch
 abbrev pub IsOfEpoch : ℕ → Making → Type 0
 IsOfEpoch epoch (Cut snapshot) = Unit {0}
 IsOfEpoch epoch (Image image) = (image.epoch ≡ epoch) × (image.written ≤ pieces_of image.encoding)
 
--- The half that stores: the disk, the segment in use, whether the device has failed since the store was opened, and the
+-- The store half: the disk, the segment in use, true if the device has failed since the store was opened, and the
 -- checkpoint under way.
 pub record StoreValue (D : Type 0) : Type 0 where
   pub disk : D
@@ -78,15 +78,15 @@ store_code {D = D} code =
       checkpoint = p.1.1.1.1;
     }) (λ _. refl)
 
--- The next segment's slot has a first byte from the first step of rotating on. Once the image's slot is closed, the
--- pieces that were written stand there after the gate and the header.
+-- The next segment's slot isn't empty after the first step of rotating. After the image's slot is closed, it holds the
+-- pieces that were written, after the gate and the header.
 pub record IsMade (view : View) (segment : Segment) (checkpoint : CheckpointValue) : Type 0 where
   pub header : 0 < checkpoint.rolled → 0 < length (slot_of view.seen (segment_slot checkpoint.epoch))
   pub pieces : 0 < checkpoint.imaged
       → HoldsAfter (slot_of view.seen (image_slot checkpoint.epoch))
       (first_pieces (checkpoint.imaged - 1) checkpoint.encoding)
 
--- the epochs of a checkpoint under way: the segment in use is that of the epoch before, until the next one is opened
+-- the epochs of a checkpoint under way: the segment in use is the former epoch's until the next one is opened
 pub record IsUnderWay (segment : Segment) (checkpoint : CheckpointValue) : Type 0 where
   pub steps : checkpoint.rolled ≤ 3
   pub before : checkpoint.rolled < 3 → checkpoint.epoch ≡ segment.epoch + 1
@@ -101,8 +101,8 @@ abbrev pub AreMade : View → Segment → Option CheckpointValue → Type 0
 AreMade view segment None = Unit {0}
 AreMade view segment (Some checkpoint) = IsMade view segment checkpoint
 
--- what stands in the slots until the device fails
+-- The contents of the slots until the device fails.
 pub record HasShape (view : View) (segment : Segment) (checkpoint : Option CheckpointValue) : Type 0 where
-  -- a closed gate stands after the last batch
+  -- a closed gate follows the last batch
   pub gate : 0 < length (slot_of view.seen (segment_slot segment.epoch))
   pub made : AreMade view segment checkpoint

@@ -5,10 +5,10 @@ ghost use Rattle.slot_steps.specs.Steps.{ClearsSlot, FindsSlotClear, IsClosing, 
 use disk::{Disk, DiskFault};
 use slot_steps::{SEGMENT_HEADER, clear_slot, segment_slot};
 
-/// The most bytes that one step truncates. Such a truncation takes about 2 ms on ext4, and batches wait for it.
+/// Maximum number of bytes that one step truncates. Such a truncation takes about 2 ms on ext4, and delays batches.
 const CLEARED_BYTES: u64 = 1_048_576;
 
-/// Takes the next step to clear the slot of an epoch's segment. Returns whether there was one.
+/// Takes the next step to clear the slot of an epoch's segment. Returns true if there was one.
 pub(crate) fn clear_segment<D: Disk>(disk: &mut D, epoch: u64) -> Result<bool, DiskFault>
     ensures done { D.honest → IfOk result (λ is_step. MatchBool is_step
         (ClearsSlot 16 CLEARED_BYTES (D.view disk.old) (D.view disk.new) (slot_of_epoch epoch))

@@ -1,4 +1,4 @@
-//! The half of the core that stores: batches go to the segment in use, and the steps of a checkpoint make the next
+//! The store half of the core: it stores batches in the segment in use, and the steps of a checkpoint create the next
 //! segment and the next image.
 #![tactic(auto)]
 

@@ -5,7 +5,7 @@ use epoch_log::Taken;
 use journal::Batch;
 use std::marker::Model;
 
-/// Says that a batch is stored. Only an append makes one, and it can't be copied.
+/// Proof that a batch is stored. Only an append creates it, and it can't be copied.
 #[derive(Drop)]
 pub struct Receipt {
     pub(crate) taken: Taken,
@@ -19,19 +19,19 @@ impl Model for Receipt {
 
     ghost coded = { coded_ℕ };
 
-    // How many records the batch has.
+    // The number of records in the batch.
     ghost view = { λ r. r.taken.batch.count };
 }
 
 impl Receipt {
-    /// How many records it says are stored.
+    /// Returns the number of records that are stored.
     pub fn count(&self) -> u32
         ensures { result ≡ self.now }
     {
         self.taken.count()
     }
 
-    /// An empty batch, with the room of the one that was stored.
+    /// Returns an empty batch with the memory of the one that was stored.
     pub fn into_empty(self) -> Batch
         ensures { result ≡ empty_batch }
     {
@@ -40,7 +40,7 @@ impl Receipt {
     }
 }
 
-/// Says that an epoch's image is whole, and so that a checkpoint is over. Only the checkpoint's last step makes one,
+/// Proof that an epoch's image is whole, so that the checkpoint is over. Only the last step of a checkpoint creates it,
 /// and it can't be copied.
 #[derive(Drop)]
 pub struct Finished {
@@ -55,12 +55,12 @@ impl Model for Finished {
 
     ghost coded = { coded_ℕ };
 
-    // The epoch whose image it is.
+    // The epoch of the image.
     ghost view = { λ f. f.epoch };
 }
 
 impl Finished {
-    /// The epoch that began with the image.
+    /// Returns the epoch that begins with the image.
     pub fn epoch(&self) -> u64
         ensures { result ≡ self.now }
     {

@@ -18,7 +18,7 @@ use std::alloc::Global;
 use std::marker::Model;
 use store_fault::StoreFault;
 
-/// The half of the core that stores. It knows of calls only what batches and snapshots bring.
+/// The store half of the core. It knows nothing of calls besides batches and snapshots.
 pub struct StoreHalf<D: Disk> {
     disk: D,
     segment: Segment,
@@ -26,7 +26,7 @@ pub struct StoreHalf<D: Disk> {
     checkpoint: Option<Checkpoint>,
 }
 
-// Written out, so that proofs above know one function and not its parts.
+// Written by hand, so that proofs of the crates above depend on one function instead of its parts.
 impl<D: Disk + Drop> Drop for StoreHalf<D> {
     fn drop(self) {
         let StoreHalf {
@@ -55,7 +55,7 @@ impl<D: Disk> Model for StoreHalf<D> {
 }
 
 impl<D: Disk> StoreHalf<D> {
-    /// Goes on from the disk of an opened store, and its segment in use.
+    /// Continues with the disk of an opened store and its segment in use.
     pub fn new(disk: D, segment: Segment) -> Self
         requires { D.honest → 0 < length (slot_of (D.view disk).seen (segment_slot segment.epoch)) }
         ensures { result ≡ record { disk = disk; segment = segment; failed = false; checkpoint = None } }
@@ -68,7 +68,7 @@ impl<D: Disk> StoreHalf<D> {
         }
     }
 
-    /// The disk of the store.
+    /// Returns the disk of the store.
     pub fn into_disk(self) -> D
         ensures { result ≡ self.disk }
     {
@@ -81,40 +81,40 @@ impl<D: Disk> StoreHalf<D> {
         disk
     }
 
-    /// Whether the device failed; then the store has to be opened again.
+    /// Returns true if the device failed, so that the store must be opened again.
     pub fn has_failed(&self) -> bool
         ensures { result ≡ self.now.failed }
     {
         self.failed
     }
 
-    /// The epoch whose batches are stored now.
+    /// Returns the epoch whose batches are stored now.
     pub fn epoch(&self) -> u64
         ensures { result ≡ self.now.segment.epoch }
     {
         self.segment.epoch
     }
 
-    /// How many records the segment in use holds.
+    /// Returns the number of records in the segment in use.
     pub fn records(&self) -> u64
         ensures { result ≡ self.now.segment.records }
     {
         self.segment.records
     }
 
-    /// Whether a checkpoint is under way.
+    /// Returns true if a checkpoint is under way.
     pub fn is_checkpointing(&self) -> bool
         ensures { result ≡ is_some self.now.checkpoint }
     {
         self.checkpoint.is_some()
     }
 
-    /// Stores a batch of the epoch in use, which an epoch log gave out: all of it or nothing. At `Ok` it is on the
-    /// disk. It takes no memory. At a fault the batch comes back.
+    /// Stores a batch of the epoch in use, which an epoch log released: all of it or nothing. At `Ok` it is durable. It
+    /// allocates nothing. A fault returns the batch.
     ///
-    /// `Failed`: the device failed in an earlier call; the store has to be opened again. `Full`: the segment would hold
-    /// more than `MAX_RECORDS` records; nothing changed. `Device`: the device failed, and whether the batch is stored
-    /// isn't known until the store is opened again.
+    /// `Failed`: the device failed in an earlier call; the store must be opened again. `Full`: the segment would hold
+    /// more than `MAX_RECORDS` records; nothing changed. `Device`: the device failed; only opening the store again can
+    /// tell if the batch is stored.
     pub fn append(&mut self, taken: Taken) -> Result<Receipt, (StoreFault, Taken)>
         requires { 0 < taken.batch.count }
         ensures stored { D.honest → OnOk result
@@ -156,8 +156,8 @@ impl<D: Disk> StoreHalf<D> {
         }
     }
 
-    /// Takes the next step to clear the slot of the next epoch's segment. Returns whether there was one: none is left
-    /// once the slot isn't open and is as short as its header, and none is taken while a checkpoint is under way.
+    /// Takes the next step to clear the slot of the next epoch's segment. Returns true if there was one. None is left
+    /// once the slot isn't open and isn't longer than its header, and none is taken while a checkpoint is under way.
     ///
     /// `Failed`: the device failed in an earlier call, and nothing changed. `Device`: the device failed.
     pub fn clear(&mut self) -> Result<bool, StoreFault>
@@ -186,7 +186,7 @@ impl<D: Disk> StoreHalf<D> {
         !self.is_checkpointing() && self.segment.epoch < u64::MAX
     }
 
-    /// Begins a checkpoint with the state at the end of the epoch in use. It takes no memory.
+    /// Begins a checkpoint with the state at the end of the epoch in use. It allocates nothing.
     pub fn begin(&mut self, cut: Cut)
         requires none { self.old.checkpoint ≡ None }
         requires next { cut.epoch ≡ self.old.segment.epoch + 1 }
@@ -195,8 +195,8 @@ impl<D: Disk> StoreHalf<D> {
         self.checkpoint = Some(Checkpoint::new(cut));
     }
 
-    /// Closes the slot of the next segment. Returns whether it did: it does if that is the checkpoint's next step of
-    /// the rotation.
+    /// Closes the slot of the next segment. Returns true if that was the checkpoint's next step of rotating, and false
+    /// if nothing was done.
     ///
     /// `Failed`: the device failed in an earlier call, and nothing changed. `Device`: the device failed.
     pub fn roll_close(&mut self) -> Result<bool, StoreFault>
@@ -222,7 +222,7 @@ impl<D: Disk> StoreHalf<D> {
         Ok(true)
     }
 
-    /// Writes the header of the next segment. Returns whether it did, like `roll_close`; its faults are the same.
+    /// Writes the header of the next segment. Returns and fails like `roll_close`.
     pub fn roll_head(&mut self) -> Result<bool, StoreFault>
         ensures done { RollHeadDone D.honest D.view self.old self.new result }
         ensures faults { RollHeadFaults D.honest D.view self.old self.new result }
@@ -246,8 +246,8 @@ impl<D: Disk> StoreHalf<D> {
         Ok(true)
     }
 
-    /// Opens the next segment, once the one in use holds its whole epoch log; from then on the next epoch's batches are
-    /// stored there. Returns whether it did; its faults are those of `roll_close`.
+    /// Opens the next segment, once the one in use holds its whole epoch log. From then on the next epoch's batches are
+    /// stored there. Returns and fails like `roll_close`.
     pub fn roll_open(&mut self) -> Result<bool, StoreFault>
         ensures done { RollOpenDone D.honest D.view self.old self.new result }
         ensures faults { RollOpenFaults D.honest D.view self.old self.new result }
@@ -272,8 +272,8 @@ impl<D: Disk> StoreHalf<D> {
         Ok(true)
     }
 
-    /// Makes the next image in memory, and closes and clears its slot. Returns whether it did: it does if that is the
-    /// image's next step.
+    /// Encodes the next image in memory, and closes and clears its slot. Returns true if that was the image's next
+    /// step, and false if nothing was done.
     ///
     /// `NoMemory`: an allocation failed, and nothing changed. The other faults are those of `roll_close`.
     pub fn close_image(&mut self, alloc: Global) -> Result<bool, StoreFault>
@@ -302,8 +302,8 @@ impl<D: Disk> StoreHalf<D> {
         Ok(true)
     }
 
-    /// Writes the next piece of the image. Returns whether it did: it does if the image was closed and a piece is left.
-    /// Its faults are those of `roll_close`.
+    /// Writes the next piece of the image. Returns true if the image's slot was closed and a piece was left, and false
+    /// if nothing was done. Fails like `roll_close`.
     pub fn write_piece(&mut self) -> Result<bool, StoreFault>
         ensures done { WritePieceDone D.honest D.view self.old self.new result }
         ensures faults { WritePieceFaults D.honest D.view self.old self.new result }
@@ -329,8 +329,8 @@ impl<D: Disk> StoreHalf<D> {
         Ok(true)
     }
 
-    /// Opens the gate of the image, whose whole encoding is written, once the next segment is open. The checkpoint is
-    /// then over, and the receipt says so. Its faults are those of `roll_close`.
+    /// Opens the gate of the image, once its whole encoding is written and the next segment is open. The checkpoint is
+    /// then over, which the returned value proves. Fails like `roll_close`.
     pub fn finish(&mut self) -> Result<Option<Finished>, StoreFault>
         ensures done { FinishDone D.honest D.view self.old self.new result }
         ensures not_now { FinishNotNow self.old self.new result }
@@ -351,7 +351,7 @@ impl<D: Disk> StoreHalf<D> {
             return Ok(None);
         }
         let epoch = checkpoint.epoch;
-        // Its clause says that the length of the encoding fits the header.
+        // The contract of `size` says that the length of the encoding fits the header.
         let _ = image.size();
         if image.finish(&mut self.disk).is_err() {
             self.failed = true;

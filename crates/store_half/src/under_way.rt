@@ -26,7 +26,7 @@ impl Model for Cut {
 }
 
 impl Cut {
-    /// The epoch that begins with this state, if the log of the epoch before has `log` records.
+    /// Creates the end of an epoch whose log has `log` records. The next epoch, `epoch`, begins with this state.
     pub fn new(snapshot: Snapshot, epoch: u64, log: u64) -> Self
         ensures { result ≡ record { epoch = epoch; log = log; encoding = snapshot_encoding snapshot } }
     {
@@ -38,7 +38,7 @@ impl Cut {
     }
 }
 
-/// What the next image is made of: the snapshot, and once its slot is closed, the image in memory.
+/// The source of the next image: the snapshot and, once its slot is closed, the image in memory.
 #[derive(Drop)]
 pub(crate) enum Making {
     Cut(Snapshot),
@@ -73,7 +73,7 @@ impl Model for Checkpoint {
 }
 
 impl Checkpoint {
-    /// A checkpoint with no step done.
+    /// Creates a checkpoint with no step done.
     pub(crate) fn new(cut: Cut) -> Self
         ensures { result ≡ begun cut }
     {

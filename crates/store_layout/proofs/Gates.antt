@@ -1,4 +1,4 @@
--- The last segment of a store in use has its last gate, if the segment in use has it.
+-- The last segment of a store in use has its last gate if the segment in use has it.
 use Rattle.std.specs.Prelude.{ℕ, ◌+◌, ◌%◌, ◌^◌, ◌<◌, List, length}
 use Rattle.std.proofs.Common.{◌≡◌, refl, sym, ◌∙◌, subst, inl, inr, arith}
 use Rattle.disk.specs.Slots.{Slots, slot_of, with_slot}
@@ -13,13 +13,13 @@ use Rattle.store_layout.specs.Gates.{HasLastGate, HaveLastGates, IsFollowed}
 use Rattle.store_layout.specs.Slots.{by_parity, one_of_two, segment_at}
 use Rattle.store_layout.specs.Standing.{as_written, InOne, InTwo, IsPassedSegment}
 
--- a slot of an epoch, by the slot's number
+-- the slot of an epoch, by the slot's number
 gate_at : (s : Slots) (e n : ℕ) → n ≡ e % 2 → HasLastGate (slot_of s (segment_slot e))
     → HasLastGate ((as_written s).segment n)
 gate_at s e n is gate =
     subst (λ m. HasLastGate ((as_written s).segment m)) (sym is) (subst HasLastGate (sym (segment_at s e)) gate)
 
--- an epoch's segment follows one of the epoch before
+-- a segment that follows is of the next epoch
 followed_by : (s : Slots) (e f : ℕ) (records : List Record) → e < 2 ^ 64
     → EncodesSegment e (slot_of s (segment_slot e)) records → e ≡ f + 1 → IsFollowed s f
 followed_by s e f records fits encoded is =
@@ -84,7 +84,7 @@ one_not_followed s e base records one followed =
       ))
     ]
 
--- an image's slot has no part in it
+-- a change of an image's slot doesn't affect the gates
 pub gates_alongside_image : (s : Slots) (x : List ℕ) (e : ℕ) → HaveLastGates s
     → HaveLastGates (with_slot s (image_slot e) x)
 gates_alongside_image s x e gates =

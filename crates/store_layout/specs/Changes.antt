@@ -1,4 +1,4 @@
--- How the steps of a checkpoint change a store in use, one slot at a time.
+-- The changes of a store in use by the steps of a checkpoint, one slot at a time.
 use Rattle.std.specs.Prelude.{ℕ, ◌+◌, ◌%◌, ◌^◌, ◌<◌, List, refl}
 use Rattle.std.proofs.Common.{sym, ◌∙◌, ap, subst, inl, inr, arith}
 use Rattle.disk.specs.Slots.{Slots, slot_of, with_slot}
@@ -12,7 +12,7 @@ use Rattle.slot_steps.proofs.Gates.{closed_not_open}
 use Rattle.store_layout.specs.Standing.{IsPassedImage, IsPassedSegment, InOne, InTwo}
 use Rattle.store_layout.specs.Slots.{own_image, own_segment, alongside_image, alongside_segment, alongside_next_segment, image_again, segment_again}
 
--- the segment in use has other records
+-- the segment in use gets other records
 pub one_segment_changed : (s : Slots) (e : ℕ) (base : State) (records more : List Record) (x : List ℕ)
     → InOne s e base records → EncodesSegment e x more → InOne (with_slot s (segment_slot e) x) e base more
 one_segment_changed s e base records more x old encoded = let others = alongside_segment s x e in record {
@@ -23,7 +23,7 @@ one_segment_changed s e base records more x old encoded = let others = alongside
   other_segment = subst (IsPassedSegment e) (sym others.2) old.other_segment;
 }
 
--- the next segment's slot is still passed over
+-- the next segment's slot changes, and is still ignored
 pub one_next_segment_changed : (s : Slots) (e : ℕ) (base : State) (records : List Record) (x : List ℕ)
     → InOne s e base records → IsPassedSegment e x → InOne (with_slot s (segment_slot (e + 1)) x) e base records
 one_next_segment_changed s e base records x old passed = let others = alongside_next_segment s x e in record {
@@ -45,7 +45,7 @@ one_opened s e base records next x old fits encoded = let others = alongside_nex
   next_segment = subst (λ l. EncodesSegment (e + 1) l next) (sym (own_segment s x (e + 1))) encoded;
 }
 
--- the next image's slot is still passed over
+-- the next image's slot changes, and is still ignored
 pub one_image_changed : (s : Slots) (e : ℕ) (base : State) (records : List Record) (x : List ℕ) → InOne s e base records
     → IsPassedImage e x → InOne (with_slot s (image_slot (e + 1)) x) e base records
 one_image_changed s e base records x old passed = let others = alongside_image s x e in record {
@@ -66,7 +66,7 @@ two_image_changed s e base first next x old passed = let others = alongside_imag
   next_segment = subst (λ l. EncodesSegment (e + 1) l next) (sym others.2) old.next_segment;
 }
 
--- the next segment has other records
+-- the next segment gets other records
 pub two_segment_changed : (s : Slots) (e : ℕ) (base : State) (first next more : List Record) (x : List ℕ)
     → InTwo s e base first next → EncodesSegment (e + 1) x more
     → InTwo (with_slot s (segment_slot (e + 1)) x) e base first more
@@ -78,7 +78,7 @@ two_segment_changed s e base first next more x old encoded = let others = alongs
   next_segment = subst (λ l. EncodesSegment (e + 1) l more) (sym (own_segment s x (e + 1))) encoded;
 }
 
--- the next image is finished: the store is in the next epoch, and the former slots are passed over
+-- the next image is finished: the store is in the next epoch, and the former slots are ignored
 pub two_finished : (s : Slots) (e : ℕ) (base mid : State) (first next : List Record) (x : List ℕ)
     → InTwo s e base first next → HoldsImage (e + 1) x mid → InOne (with_slot s (image_slot (e + 1)) x) (e + 1) mid next
 two_finished s e base mid first next x old image =
@@ -115,7 +115,7 @@ two_finished s e base mid first next x old image =
           ));
     }
 
--- A slot that is being closed, or isn't open, is still passed over.
+-- A slot that is being closed, or isn't open, is still ignored.
 
 pub closing_image : (e : ℕ) (before after : List ℕ) → IsClosing 24 before after → IsPassedImage e before
     → IsPassedImage e after

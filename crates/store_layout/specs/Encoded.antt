@@ -1,4 +1,4 @@
--- What a store in use encodes.
+-- The state that a store in use encodes.
 use Rattle.std.specs.Prelude.{◌≡◌, ℕ, ◌+◌, ◌%◌, ◌^◌, ◌<◌, ◌≤◌, List, [], ◌++◌, refl}
 use Rattle.std.proofs.Common.{sym, ◌∙◌, subst, inl, inr, arith}
 use Rattle.std.proofs.lemmas.List.{append-nil}
@@ -34,8 +34,7 @@ with_number m n e slot same is =
       of_number = is.of_number ∙ sym same;
     }
 
--- What is known of all slots together: the image of an epoch and its segment are open, and the other image is passed
--- over.
+-- Facts about all slots together: the image and the segment of an epoch are open, and the other image is ignored.
 module _ (s : Slots) (e : ℕ) (base : State) (first : List Record) (fits : e < 2 ^ 64)
     (image : HoldsImage e (slot_of s (image_slot e)) base)
     (segment : EncodesSegment e (slot_of s (segment_slot e)) first)

@@ -1,2 +1,2 @@
-//! What the slots of a store in use hold, and what each step of a checkpoint makes of it.
+//! The contents of the slots of a store in use, and their changes by each step of a checkpoint.
 #![tactic(auto)]

@@ -1,34 +1,34 @@
-//! Calls that consist only of numbers, in tables.
+//! Calls with numbers only, for tables.
 
 use ipc_model::{Call, PlainCall};
 
 /// A call.
 #[derive(Clone, Copy)]
 pub(crate) enum Asked {
-    /// Of a right.
+    /// Of a right of this kind.
     Allocate(u32),
-    /// The name 0x2000, of a receive right.
+    /// Of a receive right under the name 0x2000.
     AllocateName,
     Type(u32),
     Destroy(u32),
-    /// A name and the set after it.
+    /// A name and the set to which it moves.
     MoveMember(u32, u32),
     /// A send-once right.
     ExtractRight(u32),
     /// A send right under the name of the port.
     InsertRight(u32),
-    /// For a notice about a name, by its number, to the port 0x100.
+    /// A notice about a name, by its number, to the port 0x100.
     RequestNotification(u32, u32),
     /// Removes the receive right.
     DropReceive(u32),
-    /// With a send right made of 0x100.
+    /// With a send right that is made from 0x100.
     SpaceCreate,
-    /// From a name, at first or after a wait.
+    /// From a name, without or after a wait.
     Receive(u32, bool),
 }
 
 impl Asked {
-    /// The call itself.
+    /// Returns the call itself.
     pub(crate) fn call(self) -> Call {
         match self {
             Asked::Allocate(right) => Call::Plain(PlainCall::Allocate { right }),

@@ -1,4 +1,4 @@
-//! Stores of whole slots and corrupted ones, and what opening them returns.
+//! Stores of whole and corrupted slots, and the results of opening them.
 use crate::store::{Store, are_receive, disk_of, keeps};
 use crate::written::{CURRENT, image_of_name, segment_of_name};
 use disk::Slot;
@@ -6,17 +6,17 @@ use journal::OPEN_GATE;
 use std::alloc::{AllocError, Global};
 use store_fault::StoreFault;
 
-/// The epochs of image 0, image 1, segment 0 and segment 1. A slot without one is empty.
+/// The epochs of image 0, image 1, segment 0 and segment 1. A slot without an epoch is empty.
 pub(crate) type Epochs = [Option<u64>; 4];
 
-/// What opening a store returns: its epoch, how many records its segment holds, and which slots its state comes from,
-/// in the same order. Each slot has a name of its own, the images in their encoding and the segments in their one
+/// The result of opening a store: its epoch, the number of records in its segment, and flags for the slots from which
+/// its state comes, in the same order. Each slot has its own name, images in their encoding and segments in their
 /// record: 0x100 to 0x103.
 pub(crate) type Found = Result<(u64, u64, [bool; 4]), StoreFault>;
 
 pub(crate) const DAMAGED: Found = Err(StoreFault::Damaged);
 
-/// No slot that counts is open: a new store is made.
+/// No slot is open: a new store is made.
 pub(crate) const NEW: Found = Ok((0, 0, [false, false, false, false]));
 
 /// Image 4 and its segment.
@@ -28,18 +28,18 @@ pub(crate) const FOUR_TO_FIVE: Found = Ok((5, 1, [true, false, true, true]));
 /// Image 5 and its segment.
 pub(crate) const FIVE: Found = Ok((5, 1, [false, true, false, true]));
 
-/// How a slot is corrupted.
+/// A corruption of a slot.
 #[derive(Clone, Copy)]
 pub(crate) enum Bend {
-    /// The byte at this place is replaced by this one.
+    /// The byte at this offset is replaced by this one.
     Byte(usize, u8),
-    /// All bytes from this place on are 0.
+    /// All bytes from this offset on are 0.
     Zero(usize),
-    /// It is truncated to this length, or extended to it with bytes ff.
+    /// The slot is truncated to this length, or extended to it with bytes ff.
     Length(usize),
 }
 
-/// A slot of this version and epoch, with a name of its own.
+/// Returns a slot of this version and epoch, with its own name.
 pub(crate) fn whole_slot(
     alloc: Global,
     slot: Slot,
@@ -110,7 +110,7 @@ fn corrupted_slots(alloc: Global, epochs: Epochs, bends: &[(Slot, Bend)]) -> Opt
     ])
 }
 
-/// What opening a store returns, and its disk.
+/// Opens a store, and returns the result and the disk.
 pub(crate) fn reopened<S: Store + Drop>(alloc: Global, disk: S) -> (Found, S) {
     let (opening, disk) = disk.open(alloc, &[0x100, 0x101, 0x102, 0x103]);
     let found = match opening {
@@ -120,8 +120,8 @@ pub(crate) fn reopened<S: Store + Drop>(alloc: Global, disk: S) -> (Found, S) {
     (found, disk)
 }
 
-// Whether an opening left all slots as they were if it refused the store; and else those with the other number than the
-// epoch's, and left the epoch's image open.
+// Returns true if the opening refused the store and left all slots unchanged, or accepted it, left the slots with the
+// other number than the epoch's unchanged, and left the epoch's image open.
 fn is_left<S: Store>(found: Found, disk: &S, before: &[Vec<u8>; 4]) -> bool {
     let [image0, image1, segment0, segment1] = keeps(disk, before);
     match found {
@@ -137,8 +137,8 @@ fn is_open<S: Store>(disk: &S, image: Slot) -> bool {
     disk.bytes(image).first() == Some(&OPEN_GATE)
 }
 
-/// What opening a store returns, whether it leaves the slots that it is to leave, and what opening it again returns.
-/// `None` if a slot isn't changed by its corruption.
+/// Returns the result of opening the store, true if it leaves the expected slots, and the result of opening it again.
+/// `None`: a slot isn't changed by its corruption.
 pub(crate) fn tried<S: Store + Drop>(
     alloc: Global,
     epochs: Epochs,

@@ -1,4 +1,4 @@
-//! Calls and their answers.
+//! Calls and their replies.
 use crate::asked::Asked;
 use crate::expect::same;
 use crate::machine::{Machine, Words, after_allocated, ask, ask_all};
@@ -6,7 +6,7 @@ use crate::replayed::PORTS_IN_A_SET;
 use kernel::Kernel;
 use std::alloc::Global;
 
-/// What the calls that take no memory answer, in words.
+/// Returns the replies to the calls that allocate nothing, as words.
 pub(crate) fn read<M: Machine>(machine: &M) -> [Words; 4] {
     [
         machine.type_of(1, 0x100),
@@ -16,7 +16,7 @@ pub(crate) fn read<M: Machine>(machine: &M) -> [Words; 4] {
     ]
 }
 
-/// What they answer in a state with one port.
+/// Returns these replies in a state with one port.
 fn read_one_port<M: Machine + Drop>(alloc: Global) -> Option<[Words; 4]> {
     let machine: M = after_allocated(alloc, 1, 0x100)?;
     let words = read(&machine);
@@ -45,7 +45,7 @@ static UNRECORDED: [Row; 3] = [
     (2, Asked::Type(0x100), [2, 16, 0, 0]),
 ];
 
-/// The answer to a call, and the same in place.
+/// Returns the reply to a call, from a copy and in place.
 fn both_answers<M: Machine>(
     machine: &mut M,
     space: u32,
@@ -60,7 +60,7 @@ fn both_answers<M: Machine>(
     answers
 }
 
-/// Whether each of these calls gets this answer, in place too, and one that has a record doesn't.
+/// Returns true if each of these calls gets this reply, in place too, and a recorded call gets none.
 fn answers_so<M: Machine>(machine: &mut M) -> bool {
     for (space, asked, words) in &UNRECORDED {
         if both_answers(machine, *space, *asked) != [Some(Some(*words)); 2] {
@@ -70,7 +70,7 @@ fn answers_so<M: Machine>(machine: &mut M) -> bool {
     both_answers(machine, 1, Asked::Allocate(1)) == [Some(None); 2]
 }
 
-/// Whether they get these answers in a state with one port.
+/// Returns true if the calls get these replies in a state with one port.
 fn answers_alongside_one_port<M: Machine + Drop>(alloc: Global) -> Option<bool> {
     let mut machine: M = after_allocated(alloc, 1, 0x100)?;
     let answers = answers_so(&mut machine);
@@ -94,7 +94,7 @@ fn nearly_fill<M: Machine>(machine: &mut M) -> Option<()> {
     Some(())
 }
 
-/// Spaces 2 to 5 are made, each with a port under 0x100 as space 1 has.
+/// Spaces 2 to 5 are created, each with a port under 0x100, as in space 1.
 static SPACES_MADE: [Row; 5] = [
     (1, Asked::Allocate(1), [5, 0, 0x100, 0]),
     (1, Asked::SpaceCreate, [20, 0, 2, 0x100]),
@@ -116,7 +116,7 @@ static FULL_OF_PORTS: [Row; 10] = [
     (5, Asked::AllocateName, [4, 0, 0, 0]),
 ];
 
-/// Makes calls, and returns whether each gets its answer.
+/// Makes calls, and returns true if each gets its reply.
 fn is_answered_so<M: Machine>(machine: &mut M, rows: &[Row]) -> bool {
     for (space, asked, words) in rows {
         if ask(machine, *space, *asked) != Some(*words) {
@@ -126,8 +126,8 @@ fn is_answered_so<M: Machine>(machine: &mut M, rows: &[Row]) -> bool {
     true
 }
 
-/// Four spaces hold 16,381 ports, and then there are three more and no other. Returns whether the spaces are made,
-/// whether they are filled, and whether this holds.
+/// Four spaces hold 16,381 ports; three more ports can be made, and no others. Returns flags: the spaces are created,
+/// they are filled, and this is true.
 fn fills_up<M: Machine + Drop>(alloc: Global) -> Option<(bool, Option<()>, bool)> {
     let mut machine = M::opened(alloc)?;
     let made = is_answered_so(&mut machine, &SPACES_MADE);
@@ -137,21 +137,21 @@ fn fills_up<M: Machine + Drop>(alloc: Global) -> Option<(bool, Option<()>, bool)
     Some((made, filled, full))
 }
 
-// They are made of just a kernel: a disk in memory copies a slot at each write.
+// The ports are made in a kernel alone, because a disk in memory copies a slot at each write.
 #[test]
 fn there_are_16384_ports(rt: HostRuntime) {
     let seen = fills_up::<Kernel>(rt.alloc());
     same(&rt, seen, Some((true, Some(()), true)));
 }
 
-/// The code of a receive.
+/// Returns the code of a receive.
 fn code_of_receive<M: Machine>(machine: &mut M, name: u32, waited: bool) -> Option<u32> {
     let [code, ..] = ask(machine, 1, Asked::Receive(name, waited))?;
     Some(code)
 }
 
-/// Whether two ports were put in a set; and the codes of receives that find no port of their own, at first and after a
-/// wait: one that is in the set, and one that doesn't exist.
+/// Two ports were put in a set; and the codes of receives from a port in the set and from one that doesn't exist,
+/// without and after a wait.
 type Receipts = (Option<()>, [Option<u32>; 4]);
 
 fn receives_without_a_port<M: Machine + Drop>(alloc: Global) -> Option<Receipts> {

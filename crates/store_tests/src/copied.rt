@@ -9,9 +9,9 @@ use snapshot::{NamedEntry, Snapshot};
 use std::alloc::Global;
 use std::process::Abort;
 
-/// Three ports, 0x100 to 0x102, and a set, 0x103, with the first as its member. The third has a send right too. 0x104
-/// is a send-once right of the second, with a dead-name request to the first, and the second notifies the first of its
-/// destruction.
+/// Three ports, 0x100 to 0x102, and a set, 0x103, with the first as its member. The third also has a send right. 0x104
+/// is a send-once right to the second, with a dead-name request to the first. The second has a port-destroyed request
+/// with the first as its target.
 static BEFORE: [Asked; 9] = [
     Asked::Allocate(1),
     Asked::Allocate(1),
@@ -27,8 +27,8 @@ static BEFORE: [Asked; 9] = [
 /// Removes the receive right of the third port.
 const DEATH: Asked = Asked::DropReceive(0x102);
 
-/// To the first port, by a send right made for it, with id 7: a send right of the second, and a send-once right of the
-/// third for the reply.
+/// A message to the first port, by a send right made for it, with id 7: it carries a send right to the second, and a
+/// send-once right to the third as the reply right.
 static MESSAGE: [u8; 32] = [
     0x14, 0x15, 0, 0x80, 0, 0, 0, 0, 0, 1, 0, 0, 2, 1, 0, 0, 0, 0, 0, 0, 7, 0, 0, 0, 0x14, 0x20, 1,
     0x10, 1, 1, 0, 0,
@@ -47,14 +47,14 @@ fn make_calls<M: Machine>(alloc: Global, machine: &mut M) -> Option<Words> {
     ask(machine, 1, DEATH)
 }
 
-/// A copy of the state after these calls.
+/// Returns a copy of the state after these calls.
 fn copy_after_calls<M: Machine + Drop>(alloc: Global) -> Option<Snapshot> {
     let mut machine = M::opened(alloc)?;
     make_calls(alloc, &mut machine)?;
     machine.copied(alloc)
 }
 
-/// A name and what it stands for.
+/// A name and its entry.
 type NameSeen = Option<(u32, Entry)>;
 
 fn name_at(names: &[NamedEntry], index: usize) -> NameSeen {
@@ -62,7 +62,7 @@ fn name_at(names: &[NamedEntry], index: usize) -> NameSeen {
     Some((named.name, named.entry))
 }
 
-/// The names of the only space, up to the sixth.
+/// Returns the names of the only space, up to the sixth.
 fn names_of(copy: &Snapshot) -> [NameSeen; 6] {
     let [space] = copy.ipc.spaces.as_slice() else {
         return [None; 6];
@@ -78,7 +78,7 @@ fn names_of(copy: &Snapshot) -> [NameSeen; 6] {
     ]
 }
 
-/// A live port's serial, its set, the target of its port-destroyed request, and how many messages it has.
+/// A live port's serial, its set, the target of its port-destroyed request, and the number of its messages.
 type PortSeen = Option<(u64, Option<u32>, Option<u64>, usize)>;
 
 fn port_of(copy: &Snapshot, index: usize) -> PortSeen {
@@ -91,14 +91,14 @@ fn port_of(copy: &Snapshot, index: usize) -> PortSeen {
     ))
 }
 
-/// The rights of the first port's oldest message: that for the reply, and the first of its body.
+/// Returns the rights of the first port's oldest message: the reply right and the first right of its body.
 fn rights_of(copy: &Snapshot) -> Option<[Option<CarriedRight>; 2]> {
     let port = copy.ipc.ports.as_slice().first()?;
     let message = port.state.messages.as_slice().first()?;
     Some([message.reply, message.rights.as_slice().first().copied()])
 }
 
-/// A copy of the machine that is made from that copy.
+/// Returns a copy of the machine that is built from that copy.
 fn copied_again<M: Machine + Drop>(alloc: Global) -> Option<Snapshot> {
     let machine = M::of_copy(alloc, copy_after_calls::<M>(alloc)?)?;
     let copy = machine.copied(alloc);
@@ -114,7 +114,7 @@ const FIRST: PortRights = PortRights {
     dead_name_target: None,
 };
 
-/// That of port 2.
+/// The receive right of port 2.
 const SECOND: PortRights = PortRights { port: 2, ..FIRST };
 
 static EXPECTED_NAMES: [NameSeen; 6] = [

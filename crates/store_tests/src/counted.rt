@@ -1,4 +1,4 @@
-//! Files that count how many times they are synced, in front of those of the system.
+//! The system's files, with counts of their syncs.
 
 use std::alloc::Allocator;
 use std::cell::Cell;
@@ -9,7 +9,7 @@ use std::os::unix::net::SocketAddr;
 use std::path::PathBuf;
 use std::rt::Files;
 
-/// How many times files were synced, and how many times their folder was; and whether a sync fails now.
+/// The number of syncs of files and of their folder, and true if syncs fail now.
 #[derive(Drop)]
 pub(crate) struct Syncs {
     files: Cell<u32>,
@@ -26,7 +26,7 @@ impl Syncs {
         }
     }
 
-    /// The counts of files and of the folder.
+    /// Returns the counts of files and of the folder.
     pub(crate) fn counts(&self) -> (u32, u32) {
         (self.files.get(), self.folder.get())
     }
@@ -92,7 +92,7 @@ impl<'a> OpenFile for CountedFile<'a> {
         self.file.sync_all()
     }
 
-    // It syncs no length, so it doesn't count.
+    // It doesn't sync the length, so it isn't counted.
     fn sync_data(&self) -> io::Result<()> {
         self.file.sync_data()
     }
@@ -147,7 +147,7 @@ impl<'a> Files for CountedFiles<'a> {
         self.files.remove_dir_all(alloc, path)
     }
 
-    // The rest could be left out, but what stands in its place then is more expensive to prove.
+    // The rest could be left out, but then other code would be more expensive to prove.
 
     fn canonicalize<B: Allocator>(&self, alloc: B, path: &str) -> io::Result<PathBuf<B>> {
         self.files.canonicalize(alloc, path)

@@ -1,5 +1,5 @@
-//! Stores of two epochs whose slots are corrupted. What opening each of them returns follows from the rules of
-//! docs/FORMATS.md, "Opening".
+//! Stores of two epochs whose slots are corrupted. The expected results follow from the rules of docs/FORMATS.md,
+//! "Opening".
 use crate::bending::{Bend, DAMAGED, Epochs, FIVE, FOUR, FOUR_TO_FIVE, Found, NEW, tried};
 use crate::expect::same_in_row;
 use disk::{MemDisk, Slot};
@@ -12,13 +12,13 @@ const VERSION: Found = Err(StoreFault::Version);
 // The images and segments of epochs 4 and 5.
 const BOTH: Epochs = [Some(4), Some(5), Some(4), Some(5)];
 
-// The same, before image 5 was begun.
+// The same slots, before image 5 was begun.
 const HALF: Epochs = [Some(4), None, Some(4), Some(5)];
 
-// A store's name, the epochs of its slots, how these are corrupted, and what opening it returns.
+// A store's name, the epochs of its slots, their corruptions, and the result of opening it.
 type Row = (&'static str, Epochs, &'static [(Slot, Bend)], Found);
 
-// What isn't read: an older image's encoding, an older segment's batches, what is closed.
+// Parts that aren't read: an older image's encoding, an older segment's batches, closed slots.
 static PASSED_OVER: [Row; 14] = [
     (
         "the older image is of no state",
@@ -106,7 +106,8 @@ static PASSED_OVER: [Row; 14] = [
     ),
 ];
 
-// A checkpoint that was half done: the next image isn't open, so it is written again; or the next segment isn't either.
+// A checkpoint that was interrupted: the next image isn't open, so it is written again; or the next segment isn't open
+// either.
 static UNFINISHED: [Row; 11] = [
     (
         "the next image's gate is closed",
@@ -185,7 +186,7 @@ static UNFINISHED: [Row; 11] = [
     ),
 ];
 
-// Damage of the newest image: the older one doesn't stand in for it.
+// Damage of the newest image, which the older one doesn't replace.
 static NEWEST_IMAGE: [Row; 11] = [
     (
         "a flag is 2",
@@ -425,7 +426,7 @@ static NO_IMAGE: [Row; 7] = [
     ),
 ];
 
-// Headers of open slots, read or not: another version comes first, and then bytes that should be zero and epochs.
+// Headers of open slots, read or not: other versions, then nonzero padding bytes and invalid epochs.
 static HEADERS: [Row; 20] = [
     (
         "the older image's version is 3",

@@ -5,9 +5,9 @@ use disk::{Disk, DiskFault, FileDisk, HostFolder, MemDisk, MemFolder, Slot, Torn
 use std::alloc::Global;
 use std::{env, fs};
 
-// The functions that make one call of a disk have no clause, so that a test's proof carries nothing of it.
+// The functions that make one call of a disk have no contract, so that a test's proof carries nothing of it.
 
-// Whether these bytes are read from a slot.
+// Returns true if these bytes are read from a slot.
 fn is_read<D: Disk>(disk: &mut D, slot: Slot, wanted: &[u8]) -> bool {
     let mut buffer = [0; 64];
     match disk.read(slot, 0, &mut buffer) {
@@ -20,7 +20,7 @@ fn read<D: Disk>(disk: &mut D, at: u64, buffer: &mut [u8]) -> Result<usize, Disk
     disk.read(Slot::Image1, at, buffer)
 }
 
-// A write has to begin within the slot.
+// Writes bytes to a slot. A write must begin within the slot.
 fn write<D: Disk>(
     disk: &mut D,
     slot: Slot,
@@ -33,7 +33,7 @@ fn write<D: Disk>(
     Some(disk.write_at(slot, at, bytes))
 }
 
-// A slot can only be truncated to less.
+// Truncates a slot, which can only become shorter.
 fn cut<D: Disk>(disk: &mut D, slot: Slot, length: u64) -> Option<Result<(), DiskFault>> {
     if length > disk.length(slot) {
         return None;
@@ -45,7 +45,7 @@ fn sync<D: Disk>(disk: &mut D, slot: Slot) -> Result<(), DiskFault> {
     disk.sync(slot)
 }
 
-// The length of a slot, and how many calls have failed.
+// Returns the length of a slot, and the number of failed calls.
 fn counts<D: Disk>(disk: &D, slot: Slot) -> (u64, u64) {
     (disk.length(slot), disk.failures())
 }
@@ -75,14 +75,14 @@ fn take<D: Disk>(disk: &mut D, steps: &[DeviceStep]) -> Option<()> {
     Some(())
 }
 
-// The bytes "aBcdEFG" in the image 1, in several steps.
+// The bytes "aBcdEFG" in image 1, in several steps.
 static WRITTEN: [DeviceStep; 3] = [
     DeviceStep::Write(Slot::Image1, 0, b"abcdef"),
     DeviceStep::Write(Slot::Image1, 4, b"EFG"),
     DeviceStep::Write(Slot::Image1, 1, b"B"),
 ];
 
-// The bytes "aBc" of that.
+// Truncates them to "aBc".
 static SHORTENED: [DeviceStep; 2] = [
     DeviceStep::Cut(Slot::Image1, 3),
     DeviceStep::Sync(Slot::Image1),
@@ -90,15 +90,15 @@ static SHORTENED: [DeviceStep; 2] = [
 
 static WHOLE: Slots<'static> = [b"", b"aBcdEFG", b"", b""];
 
-// Whether steps were taken, and the counts of the image 1 then.
+// Steps were taken; then the counts of image 1.
 type Taken = (Option<()>, (u64, u64));
 
 fn taken<D: Disk>(disk: &mut D, steps: &[DeviceStep]) -> Taken {
     (take(disk, steps), counts(disk, Slot::Image1))
 }
 
-// The same once that is written, and whether the slots hold it; and once it is truncated and synced, and whether that
-// is read then.
+// Returns the counts after the bytes were written, and flags that the slots hold them; and the counts after they were
+// truncated and synced, and a flag that the rest is read then.
 fn written_and_read<S: Store + Drop>(alloc: Global) -> (Taken, [bool; 4], Taken, bool) {
     let mut disk = S::empty(alloc);
     (
@@ -116,7 +116,7 @@ fn memory_is_read_as_it_was_written(rt: HostRuntime) {
     same(&rt, seen, (written, [true; 4], shortened, true));
 }
 
-// What is seen of the same steps on one disk.
+// Returns the same for one disk.
 fn seen_of_steps<D: Disk>(disk: &mut D) -> (Taken, Taken, bool) {
     (
         taken(disk, &WRITTEN),
@@ -133,7 +133,7 @@ fn files_in_memory_are_read_as_they_were_written(rt: HostRuntime) {
     same(&rt, seen, ((Some(()), (7, 0)), (Some(()), (3, 0)), true));
 }
 
-// How many bytes are read at the end of three, and after it, and what is in the first one's buffer.
+// Returns the numbers of bytes that are read at the end of three bytes, and after it, and the buffer of the first read.
 fn read_at_the_end<S: Store + Drop>(alloc: Global) -> ([Result<usize, DiskFault>; 2], [u8; 4]) {
     let mut disk = S::empty(alloc);
     let mut buffer = *b"....";
@@ -160,8 +160,8 @@ static BEGUN: [DeviceStep; 5] = [
     DeviceStep::Sync(Slot::Segment0),
 ];
 
-// A disk with these, and a write that failed: its sixth call. That they were done shows in what it holds and counts
-// then.
+// Returns a disk after these steps, and after a failed write, which is its sixth call. Its contents and counts show
+// that the steps were done.
 fn begun<S: Store + Drop>(alloc: Global, torn: Torn) -> Option<S> {
     let mut disk = S::holding(alloc, [b"abc", b"abcdef", b"", b"m"])?;
     disk.plan_faults(None, Some(6), torn);
@@ -172,7 +172,7 @@ fn begun<S: Store + Drop>(alloc: Global, torn: Torn) -> Option<S> {
 
 static SEEN: Slots<'static> = [b"aWXYZ", b"abW", b"pq", b"m"];
 
-// What a crash leaves of that.
+// The contents that a crash leaves of that.
 static LEFT: [(Torn, Slots<'static>); 4] = [
     (Torn::Old, [b"abc", b"ab", b"pq", b"m"]),
     (Torn::New, [b"aWXYZ", b"abWdef", b"pq", b"mnop"]),
@@ -180,7 +180,8 @@ static LEFT: [(Torn, Slots<'static>); 4] = [
     (Torn::Fill(35), [b"a####", b"ab#def", b"pq", b"m###"]),
 ];
 
-// Whether such a disk holds what was written, and how many calls failed; and whether a crash leaves these bytes.
+// Returns true if such a disk holds the bytes written, the number of failed calls, and true if a crash leaves these
+// bytes.
 fn torn_by_a_stop<S: Store + Drop>(
     alloc: Global,
     torn: Torn,
@@ -200,7 +201,7 @@ fn a_crash_tears_what_was_not_synced(rt: HostRuntime) {
     }
 }
 
-// What a sync answers on what a crash leaves, and its counts then; and whether a second crash leaves these bytes.
+// The result of a sync after a crash, the counts then, and true if a second crash leaves these bytes.
 type AtRest = (Result<(), DiskFault>, (u64, u64), bool);
 
 fn left_at_rest<S: Store + Drop>(alloc: Global, torn: Torn, image0: &[u8]) -> Option<AtRest> {
@@ -211,7 +212,7 @@ fn left_at_rest<S: Store + Drop>(alloc: Global, torn: Torn, image0: &[u8]) -> Op
     Some((synced, counts, left.bytes(Slot::Image0) == image0))
 }
 
-// What a crash leaves has no plan, and nothing that a second crash could tear.
+// A disk after a crash has no plan, and nothing that a second crash could tear.
 #[test]
 fn a_crash_leaves_a_disk_at_rest(rt: HostRuntime) {
     for (torn, [image0, ..]) in &LEFT {
@@ -225,7 +226,7 @@ static AB: [DeviceStep; 1] = [DeviceStep::Write(Slot::Image0, 0, b"ab")];
 
 static A: [DeviceStep; 1] = [DeviceStep::Write(Slot::Image0, 0, b"A")];
 
-// The answers of a sync, a truncation, a write and a read.
+// The results of a sync, a truncation, a write and a read.
 type Answers = (
     Result<(), DiskFault>,
     [Option<Result<(), DiskFault>>; 2],
@@ -243,8 +244,8 @@ fn answers<D: Disk>(disk: &mut D) -> Answers {
     )
 }
 
-// Whether two steps were taken; what the disk, which has been stopped since the second, answers; its counts then; and
-// whether it holds what was written.
+// Two steps were taken; the results of the disk, which has been stopped since the second step; its counts then; and
+// true if it holds the bytes written.
 type Stopped = ([Option<()>; 2], Answers, (u64, u64), bool);
 
 fn ask_stopped<S: Store>(disk: &mut S) -> Stopped {
@@ -258,7 +259,7 @@ fn ask_stopped<S: Store>(disk: &mut S) -> Stopped {
     )
 }
 
-// The same, and whether it holds nothing after a crash.
+// Returns the same, and true if it holds nothing after a crash.
 fn stopped_and_asked<S: Store + Drop>(alloc: Global) -> Option<(Stopped, bool)> {
     let mut disk = S::empty(alloc);
     let seen = ask_stopped(&mut disk);
@@ -274,10 +275,10 @@ fn a_plan_crashes_all_later_calls(rt: HostRuntime) {
     same(&rt, seen, Some((asked, true)));
 }
 
-// How many folders are tried at most until there is one that no other test uses.
+// Maximum number of folders that are tried until one is unused.
 const FOLDERS: u32 = 10_000;
 
-// Makes a folder that no other test uses.
+// Creates a folder that no other test uses.
 fn fresh_folder(rt: &HostRuntime) -> Option<String> {
     let parent = env::temp_dir(rt).ok()?;
     for number in 0..FOLDERS {
@@ -293,25 +294,25 @@ fn remove(rt: &HostRuntime, folder: &str) -> Option<()> {
     fs::remove_dir_all(rt, folder).ok()
 }
 
-// Removes a folder that has to be empty.
+// Removes a folder that must be empty.
 fn remove_empty(rt: &HostRuntime, folder: &str) -> Option<()> {
     fs::remove_dir(rt, folder).ok()
 }
 
-// Removes a folder that has to be empty, and makes it anew.
+// Removes a folder that must be empty, and creates it again.
 fn renew(rt: &HostRuntime, folder: &str) -> Option<()> {
     remove_empty(rt, folder)?;
     fs::create_dir(rt, folder).ok()
 }
 
-// Removes a folder with all that is in it, and makes it anew.
+// Removes a folder with its contents, and creates it again.
 fn empty(rt: &HostRuntime, folder: &str) -> Option<()> {
     remove(rt, folder)?;
     fs::create_dir(rt, folder).ok()
 }
 
-// A folder with the files of a disk. What is done on files is generic in such a folder, and called once for each kind:
-// a proof then carries nothing of files, and each such call is expensive.
+// A folder with the files of a disk. Operations on files are generic in the folder, and called once for each kind. So
+// proofs carry nothing about files, of which each such call is expensive.
 trait Folder {
     type Files: Disk + Drop;
 
@@ -350,14 +351,14 @@ static SEGMENT_STEPS: [DeviceStep; 5] = [
     DeviceStep::Sync(Slot::Segment0),
 ];
 
-// Writes to a folder's files, and returns the counts of the segment 0.
+// Writes to a folder's files, and returns the counts of segment 0.
 fn write_segment<F: Folder>(folder: &F) -> Option<(u64, u64)> {
     let mut disk = folder.files().ok()?;
     take(&mut disk, &SEGMENT_STEPS)?;
     Some(counts(&disk, Slot::Segment0))
 }
 
-// Whether the segment 0 holds what was written, and then its counts and those of the image 0.
+// Segment 0 holds the bytes written; then its counts and those of image 0.
 type Held = (bool, [(u64, u64); 2]);
 
 fn read_segment<F: Folder>(folder: &F) -> Option<Held> {
@@ -368,7 +369,7 @@ fn read_segment<F: Folder>(folder: &F) -> Option<Held> {
     ))
 }
 
-// Whether a slot is read as an empty one, and what a sync answers then.
+// A slot reads as empty; and the result of a sync.
 type Empty = (bool, Result<(), DiskFault>);
 
 fn read_and_sync<D: Disk>(disk: &mut D, slot: Slot) -> Empty {
@@ -386,25 +387,25 @@ fn read_and_sync_all<F: Folder>(folder: &F) -> Option<[Empty; 4]> {
     ])
 }
 
-// The fault of files at a path.
+// Returns the fault of files at a path.
 fn fault_at(rt: HostRuntime, path: &str) -> Option<DiskFault> {
     Plain { rt, path }.files().err()
 }
 
-// The faults of files in a folder that doesn't exist, and in a file.
+// Returns the faults of files in a folder that doesn't exist, and in a file.
 fn faults_in_file(rt: HostRuntime, path: &str) -> Option<[Option<DiskFault>; 2]> {
     let absent = fault_at(rt, path);
     fs::write(&rt, path, b"a".as_slice()).ok()?;
     Some([absent, fault_at(rt, path)])
 }
 
-// The fault of files of which one is a folder.
+// Returns the fault of files of which one is a folder.
 fn fault_of_slot(rt: HostRuntime, folder: &str, slot: &str) -> Option<Option<DiskFault>> {
     fs::create_dir(&rt, slot).ok()?;
     Some(fault_at(rt, folder))
 }
 
-// These faults, one after the other, and whether the folder was emptied between them and removed.
+// These faults, one after another, and flags that the folder was emptied between them and removed.
 type Refused = (
     Option<[Option<DiskFault>; 2]>,
     Option<()>,
@@ -434,10 +435,10 @@ fn what_is_no_folder_or_no_file_is_refused(rt: HostRuntime) {
     same(&rt, refused(rt), Some(wanted));
 }
 
-// Whether what comes before was done, what two calls answer then, and how many have failed after them.
+// The steps before were done; the results of two calls; and the number of failed calls after them.
 type Failed = (Option<()>, [Option<Result<(), DiskFault>>; 2], u64);
 
-// A write and a truncation on files whose folder is removed.
+// Makes a write and a truncation on files whose folder is removed.
 fn write_in_removed<F: Folder>(rt: &HostRuntime, folder: &F, path: &str) -> Option<Failed> {
     let mut disk = folder.files().ok()?;
     let removed = remove_empty(rt, path);
@@ -446,8 +447,8 @@ fn write_in_removed<F: Folder>(rt: &HostRuntime, folder: &F, path: &str) -> Opti
     Some((removed, [written, cut], disk.failures()))
 }
 
-// What is read from a folder that is empty, and whether it still is after that; the counts of files as they are
-// written, what is read from them, and whether they are removed; and how calls fail.
+// The reads from an empty folder, and a flag that it is still empty after them; the counts of files that were written,
+// the reads from them, and a flag that they are removed; and the failures of calls.
 type OnFiles = (
     Option<[Empty; 4]>,
     Option<()>,
@@ -474,7 +475,7 @@ fn seen_on_files(rt: HostRuntime) -> Option<OnFiles> {
     Some(seen_on(&rt, &Plain { rt, path }, path))
 }
 
-// Reads and syncs create no file, files hold what was written, and a failed call is counted.
+// Reads and syncs create no file, files hold the bytes written, and a failed call is counted.
 #[test]
 fn files_are_read_written_and_synced(rt: HostRuntime) {
     let empty = Some([(true, Ok(())); 4]);
@@ -484,7 +485,7 @@ fn files_are_read_written_and_synced(rt: HostRuntime) {
     same(&rt, seen_on_files(rt), Some(wanted));
 }
 
-// The files of a folder, whose syncs are counted.
+// Returns the files of a folder, whose syncs are counted.
 fn counted_at<'a>(files: &'a HostRuntime, folder: &'a str, syncs: &'a Syncs) -> CountedFiles<'a> {
     CountedFiles {
         files,
@@ -493,7 +494,7 @@ fn counted_at<'a>(files: &'a HostRuntime, folder: &'a str, syncs: &'a Syncs) -> 
     }
 }
 
-// How many times files and their folder were synced after these steps.
+// Returns the numbers of syncs of files and of their folder after these steps.
 fn syncs_after<D: Disk>(disk: &mut D, syncs: &Syncs, steps: &[DeviceStep]) -> Option<(u32, u32)> {
     take(disk, steps)?;
     Some(syncs.counts())
@@ -518,8 +519,8 @@ static CUT: [DeviceStep; 2] = [
     DeviceStep::Sync(Slot::Image0),
 ];
 
-// The same after each sync of a slot: one without a file, a new one, one that was written again, one that wasn't, and
-// another new one.
+// Returns these numbers after each sync of a slot: without a file, with a new file, after a rewrite, without a change,
+// and with another new file.
 fn count_syncs<F: Folder>(folder: &F, syncs: &Syncs) -> Option<[Option<(u32, u32)>; 5]> {
     let mut disk = folder.files().ok()?;
     Some([
@@ -531,7 +532,7 @@ fn count_syncs<F: Folder>(folder: &F, syncs: &Syncs) -> Option<[Option<(u32, u32
     ])
 }
 
-// What syncs answer while they fail, and afterwards, and how many calls have failed then.
+// Returns the results of syncs while they fail, and afterwards, and the number of failed calls then.
 fn fail_syncs<F: Folder>(folder: &F, syncs: &Syncs) -> Option<Failed> {
     let mut disk = folder.files().ok()?;
     let written = take(&mut disk, &UNSYNCED);
@@ -543,8 +544,8 @@ fn fail_syncs<F: Folder>(folder: &F, syncs: &Syncs) -> Option<Failed> {
     Some((written, answers, disk.failures()))
 }
 
-// What syncs that fail answer, and the number of syncs then; whether the folder is emptied; the number of syncs after
-// each sync that doesn't fail; and whether the folder is removed.
+// The results of syncs that fail, and the number of syncs then; a flag that the folder is emptied; the number of syncs
+// after each successful one; and a flag that the folder is removed.
 type Synced = (
     Option<Failed>,
     (u32, u32),
@@ -570,8 +571,8 @@ fn synced_files(rt: HostRuntime) -> Option<Synced> {
     Some(synced(&rt, &counted_at(&rt, path, &syncs), path, &syncs))
 }
 
-// A failed sync isn't made good: the system may have dropped what it couldn't write, so a later sync would prove
-// nothing. A sync syncs the file, and a new one its folder too.
+// A failed sync isn't retried: the system may have dropped unwritten data, so a later sync would prove nothing. A sync
+// syncs the file, and for a new file also its folder.
 #[test]
 fn syncs_are_of_files_and_their_folder(rt: HostRuntime) {
     let failed = (Some(()), [Some(Err(DiskFault)); 2], 2);

@@ -1,4 +1,4 @@
-//! Stores of later epochs, and of a checkpoint that was half done.
+//! Stores of later epochs, and with an interrupted checkpoint.
 use crate::bending::{Found, reopened};
 use crate::expect::{same, same_in_row};
 use crate::looked::looked;
@@ -11,7 +11,7 @@ use slot_steps::segment_slot;
 use std::alloc::{AllocError, Global};
 use store_fault::StoreFault;
 
-// An epoch's segment. Its slot isn't empty once it is closed.
+// Returns an epoch's segment. Its slot isn't empty once it is closed.
 fn next_segment<D: Disk>(disk: &mut D, epoch: u64) -> Result<Segment, StoreFault> {
     roll_close(disk, epoch)?;
     if disk.length(segment_slot(epoch)) == 0 {
@@ -21,7 +21,7 @@ fn next_segment<D: Disk>(disk: &mut D, epoch: u64) -> Result<Segment, StoreFault
     Ok(roll_open(disk, epoch)?)
 }
 
-// Appends a record to a segment, and makes the next epoch's.
+// Appends a record to a segment, and creates the next epoch's segment.
 fn roll<D: Disk>(
     alloc: Global,
     segment: &mut Segment,
@@ -31,30 +31,30 @@ fn roll<D: Disk>(
     next_segment(disk, segment.epoch.saturating_add(1))
 }
 
-// A new store whose segment has a record, and that has the next epoch's segment, but not its image.
+// Returns a new store with a record in its segment, and with the next epoch's segment, but not its image.
 fn rolled<S: Store + Drop>(alloc: Global) -> Option<(S, Segment)> {
     let (mut disk, mut segment) = S::empty(alloc).go_on(alloc)?;
     let next = roll(alloc, &mut segment, &mut disk).ok()?;
     Some((disk, next))
 }
 
-// The same, with a record in the next epoch's segment.
+// Returns the same store with a record in the next epoch's segment.
 fn half_done<S: Store + Drop>(alloc: Global) -> Option<S> {
     let (mut disk, mut next) = rolled::<S>(alloc)?;
     append_allocations(alloc, &mut next, &mut disk, 1).ok()?;
     Some(disk)
 }
 
-// An epoch, and how many records are reported for it.
+// An epoch, and the reported number of records.
 type Reported = Result<(u64, u64), StoreFault>;
 
-// What a look reports of a store: the epoch of its image, and its records.
+// Returns the epoch of a store's image and the number of its records, without opening it.
 fn look_at<D: Disk>(alloc: Global, disk: &mut D) -> Reported {
     let (epoch, records, _, _) = looked(alloc, disk)?;
     Ok((epoch, records))
 }
 
-// What is reported of a store whose checkpoint was half done: by a look, by its opening, and by a look after that.
+// Returns the reports on a store whose checkpoint was interrupted: by a look, by its opening, and by a look after that.
 fn reported_of_half_done<S: Store + Drop>(alloc: Global) -> Option<(Reported, Found, Reported)> {
     let mut disk = half_done::<S>(alloc)?;
     let first = look_at(alloc, &mut disk);
@@ -62,8 +62,8 @@ fn reported_of_half_done<S: Store + Drop>(alloc: Global) -> Option<(Reported, Fo
     Some((first, found, look_at(alloc, &mut disk)))
 }
 
-// A store whose first checkpoint was half done is in epoch 1 once it is opened; its second checkpoint is half done
-// then.
+// A store whose first checkpoint was interrupted is in epoch 1 once it is opened; then its second checkpoint is
+// interrupted.
 #[test]
 fn checkpoints_are_finished(rt: HostRuntime) {
     let reported = reported_of_half_done::<MemDisk>(rt.alloc());
@@ -71,8 +71,8 @@ fn checkpoints_are_finished(rt: HostRuntime) {
     same(&rt, reported, Some((Ok((0, 2)), found, Ok((1, 1)))));
 }
 
-// The slots of an epoch and of the next one, each whole: the image of the first has no name, its segment allocates
-// 0x100, and with that name the next epoch begins, whose segment has this content.
+// Returns the slots of an epoch and of the next one, all whole. The image of the first epoch has no name, and its
+// segment allocates 0x100. With that name the next epoch begins, whose segment has this content.
 fn in_epochs(
     alloc: Global,
     first: u64,
@@ -87,8 +87,8 @@ fn in_epochs(
     ])
 }
 
-// How long the next image and segment are; and twice what opening the store returns, and whether its slots are those of
-// epoch 1 then.
+// Returns the lengths of the next image and segment; and twice the result of opening the store, with a flag that its
+// slots are then those of epoch 1.
 fn finished_without_image<S: Store + Drop>(
     alloc: Global,
     wanted: &[Vec<u8>; 4],
@@ -105,7 +105,7 @@ fn finished_without_image<S: Store + Drop>(
     Some((lengths, [(first, is_first), (second, is_second)]))
 }
 
-// The next segment is open, without a record, and there is only the image of epoch 0.
+// The next segment is open, without records, and there is only the image of epoch 0.
 #[test]
 fn a_checkpoint_without_its_image_is_finished(rt: HostRuntime) {
     let Ok(wanted) = in_epochs(rt.alloc(), 0, 1, &[0]) else {
@@ -124,7 +124,7 @@ fn appended<S: Store + Drop>(alloc: Global, disk: S) -> Option<S> {
     Some(disk)
 }
 
-// A segment's content with the record of the name 0x101.
+// Returns a segment's content with the record of the name 0x101.
 fn second_batch() -> [u8; 54] {
     let mut batch = [0; 54];
     batch.copy_from_slice(&SEGMENT[16..]);
@@ -132,8 +132,8 @@ fn second_batch() -> [u8; 54] {
     batch
 }
 
-// What opening a store of these slots returns, and whether it has these slots then; and the same after an append, which
-// leaves those.
+// Returns the result of opening a store with these slots, and a flag that it then has these slots; and the same after
+// an append, which leaves those slots.
 fn gone_on<S: Store + Drop>(
     alloc: Global,
     before: &[Vec<u8>; 4],
@@ -147,7 +147,7 @@ fn gone_on<S: Store + Drop>(
     Some([(first, is_first), (second, is_second)])
 }
 
-// The same for a store of epochs 4 and 5.
+// Returns the same for a store of epochs 4 and 5.
 fn gone_on_in_five<S: Store + Drop>(alloc: Global) -> Option<[(Found, [bool; 4]); 2]> {
     let before = in_epochs(alloc, 4, 5, &[0]).ok()?;
     let after = in_epochs(alloc, 4, 5, &second_batch());
@@ -170,12 +170,12 @@ fn records_go_to_the_segment_of_the_newest_image(rt: HostRuntime) {
     same(&rt, seen, Some(wanted));
 }
 
-// How many device calls the opening of such a store makes: four syncs, four headers, the image's version, length and
+// Number of device calls in the opening of such a store: four syncs, four headers, the image's version, length and
 // encoding, the version and the batches of two segments; four calls that clear the next image, one for its encoding,
 // two for its header and two for its gate; and the two that end the segment.
 const CALLS: u64 = 26;
 
-// The fault of an opening within which a crash may come, and what opening the store again returns then.
+// Returns the fault of an opening during which a crash may occur, and the result of opening the store again.
 fn stopped<S: Store + Drop>(
     alloc: Global,
     stop_at: u64,
@@ -188,7 +188,7 @@ fn stopped<S: Store + Drop>(
     Some((first.err(), found))
 }
 
-// Whatever a crash within the opening leaves, the next one returns the state with both records, in epoch 1.
+// Whatever a crash during the opening leaves, the next one returns the state with both records, in epoch 1.
 #[test]
 fn crashes_while_a_checkpoint_is_finished(rt: HostRuntime) {
     for torn in &TORN {

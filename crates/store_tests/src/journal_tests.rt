@@ -21,8 +21,8 @@ fn append_all<D: Disk>(
     Ok(())
 }
 
-// What appends of batches with these numbers of records answer, how many a new segment has after them, and whether it
-// has these bytes.
+// The result of appending batches with these numbers of records; the number of records in the segment then; and a flag
+// that it has these bytes.
 type Stored = (Result<(), StoreFault>, u64, bool);
 
 fn stored<S: Store + Drop>(alloc: Global, counts: &[u8], wanted: &[u8]) -> Option<Stored> {
@@ -39,7 +39,7 @@ fn a_batch_is_stored(rt: HostRuntime) {
     same(&rt, seen, Some((Ok(()), 1, true)));
 }
 
-// A segment of epoch 0 with two batches: one of two records, and then one of a single record.
+// A segment of epoch 0 with two batches: one of two records, then one of a single record.
 static TWO_BATCHES: [u8; 163] = [
     0x5a, 2, 0, 0, 0, 0, 0, 0, 0, 0, 0, 0, 0, 0, 0, 0, // the header
     0x5a, 2, 0, 0, 0, 80, 0, 0, 0, 0, 0, 0, 0, // two records of 80 bytes
@@ -62,7 +62,7 @@ fn a_batch_has_one_gate(rt: HostRuntime) {
     same(&rt, seen, Some((Ok(()), 3, true)));
 }
 
-// What an append answers, and how many records and how many bytes the segment has then.
+// The result of an append, and the numbers of records and bytes in the segment then.
 type Appended = (Result<(), StoreFault>, u64, usize);
 
 // Appends a batch of `count` records to a segment of `records` records.
@@ -89,7 +89,7 @@ fn a_segment_holds_65536_records(rt: HostRuntime) {
     }
 }
 
-// The records of a segment that is read in pieces of `room` bytes, and where the last one ends.
+// Returns the records of a segment that is read in pieces of `room` bytes, and the offset at which the last one ends.
 fn read<S: Store + Drop>(
     alloc: Global,
     segment: &[u8],
@@ -99,7 +99,8 @@ fn read<S: Store + Drop>(
     records_of(alloc, &mut disk, room)
 }
 
-// Where the only record that was read ends, its space, and whether it is an allocation of the name 0x100.
+// Returns the offset at which the only record that was read ends, its space, and two flags: its call is an allocation,
+// and its reply is the name 0x100.
 fn only_of(read: &Read) -> Option<(u64, u32, bool, bool)> {
     let [record] = read.records.as_slice() else {
         return None;
@@ -123,7 +124,7 @@ fn records_are_read(rt: HostRuntime) {
     same(&rt, seen, Some((69, 1, true, true)));
 }
 
-// A segment with the batch of `SEGMENT` twice.
+// Returns a segment with the batch of `SEGMENT` twice.
 fn twice() -> [u8; 123] {
     let mut twice = [0; 123];
     twice[..69].copy_from_slice(&SEGMENT[..69]);
@@ -131,7 +132,7 @@ fn twice() -> [u8; 123] {
     twice
 }
 
-// The fault of the read of a segment, if there is one.
+// Returns the fault of the read of a segment, if there is one.
 fn fault_of<S: Store + Drop>(alloc: Global, segment: &[u8]) -> Option<Option<StoreFault>> {
     Some(read::<S>(alloc, segment, PIECE)?.err())
 }
@@ -142,7 +143,7 @@ fn a_second_batch_has_its_own_number(rt: HostRuntime) {
     same(&rt, fault, Some(Some(StoreFault::Damaged)));
 }
 
-// How many records were read, and where the last one ends.
+// Returns the number of records that were read, and the offset at which the last one ends.
 fn size_of(read: Option<Result<Read, StoreFault>>) -> Option<(usize, u64)> {
     let read = read?.ok()?;
     let size = (read.records.len(), read.end);
@@ -150,7 +151,7 @@ fn size_of(read: Option<Result<Read, StoreFault>>) -> Option<(usize, u64)> {
     Some(size)
 }
 
-// The same for a long segment.
+// Returns the same for a long segment.
 fn seen_in<S: Store + Drop>(alloc: Global, count: u16, room: usize) -> Option<(usize, u64)> {
     let segment = long_segment(alloc, count).ok()?;
     let read = read::<S>(alloc, &segment, room);
@@ -158,7 +159,7 @@ fn seen_in<S: Store + Drop>(alloc: Global, count: u16, room: usize) -> Option<(u
     size_of(read)
 }
 
-// Where a segment of 2,600 records ends.
+// The offset at which a segment of 2,600 records ends.
 const END: u64 = 16 + 2_600 * 53;
 
 static ROOMS: [usize; 5] = [
@@ -169,7 +170,7 @@ static ROOMS: [usize; 5] = [
     PIECE,
 ];
 
-// Records stand across the edges of pieces, and pieces may have any size that is allowed.
+// Records cross the edges of pieces, and pieces may have any size that is allowed.
 #[test]
 fn pieces_of_any_size(rt: HostRuntime) {
     for room in &ROOMS {
@@ -178,7 +179,7 @@ fn pieces_of_any_size(rt: HostRuntime) {
     }
 }
 
-// Whether a fault is reported in these words.
+// Returns true if a fault has this error message.
 fn is_reported(alloc: Global, fault: StoreFault, words: &str) -> Option<bool> {
     let reported = format!(in alloc; "{fault}").ok()?;
     Some(reported.as_str() == words)

@@ -7,14 +7,14 @@ use kernel::lawful;
 use snapshot::{IpcSnapshot, LivePort, NamedEntry, Snapshot, Space};
 use std::alloc::{AllocError, Global};
 
-/// A port's serial and its set; the port whose receive right the one message in its queue carries, if there is one; and
-/// whether that message has a byte too many.
+/// A port's serial and its set; the port whose receive right is in the only message of its queue, if there is one; and
+/// true if that message has a byte too many.
 type PortRow = (u64, Option<u32>, Option<u64>, bool);
 
 /// A body of one item, a receive right.
 static BODY: [u8; 8] = [16, 32, 1, 0x10, 0, 0, 0, 0];
 
-/// The same with a byte after it.
+/// The same body with a byte after it.
 static ODD_BODY: [u8; 9] = [16, 32, 1, 0x10, 0, 0, 0, 0, 0];
 
 fn holding(port: u64, receive: bool, send: u32) -> Entry {
@@ -70,8 +70,8 @@ fn live_ports(alloc: Global, rows: &[PortRow]) -> Result<Sequence<LivePort>, All
     Ok(Sequence::new(ports))
 }
 
-/// The names of space 1: the receive right of port 1 as 0x100, a set as 0x101, and what 0x102 stands for, if it is a
-/// name.
+/// Returns the names of space 1: the receive right of port 1 as 0x100, a set as 0x101, and the entry of 0x102, if it
+/// has one.
 fn names(alloc: Global, third: Option<Entry>) -> Result<Vec<NamedEntry>, AllocError> {
     let mut names = Vec::new(alloc);
     names.push(NamedEntry {
@@ -88,7 +88,7 @@ fn names(alloc: Global, third: Option<Entry>) -> Result<Vec<NamedEntry>, AllocEr
     Ok(names)
 }
 
-/// Just space 1, with these names.
+/// Returns space 1 alone, with these names.
 fn spaces(alloc: Global, third: Option<Entry>) -> Result<Sequence<Space>, AllocError> {
     let names = names(alloc, third)?;
     let mut spaces = Vec::new(alloc);
@@ -99,7 +99,7 @@ fn spaces(alloc: Global, third: Option<Entry>) -> Result<Sequence<Space>, AllocE
     Ok(Sequence::new(spaces))
 }
 
-/// Rows of kept replies: one for each request and name, to an allocation of that name.
+/// Returns rows of kept replies: one for each request and name, to an allocation of that name.
 fn kept(
     alloc: Global,
     rows: &[Option<(u32, u32)>],
@@ -131,12 +131,12 @@ fn snapshot(
     })
 }
 
-/// Whether a state is a lawful one. It has no clause, so that a test's proof carries nothing of it.
+/// Returns true if a snapshot is of a lawful state. It has no contract, so that a test's proof carries nothing of it.
 fn is_lawful(alloc: Global, snapshot: &Snapshot) -> Option<bool> {
     lawful(alloc, snapshot).ok()
 }
 
-/// Whether these rows are those of a lawful state.
+/// Returns true if these rows are those of a lawful state.
 fn verdict(
     alloc: Global,
     third: Option<Entry>,
@@ -152,12 +152,12 @@ fn verdict(
 /// Port 1 is in the set, and the receive right of port 2 is in its queue.
 static USUAL: [PortRow; 2] = [(1, Some(0x101), Some(2), false), (2, None, None, false)];
 
-/// Whether the usual ports are lawful together with what 0x102 stands for.
+/// Returns true if the usual ports are lawful with this entry of 0x102.
 fn usual(alloc: Global, third: Option<Entry>) -> Option<bool> {
     verdict(alloc, third, &USUAL, &[None])
 }
 
-/// A second receive right of a port, a right to a dead port, and references that are none or too many are refused.
+/// A second receive right to a port, a right to a dead port, and too few or too many references are refused.
 #[test]
 fn names_are_looked_at(rt: HostRuntime) {
     for (third, wanted) in [
@@ -171,8 +171,8 @@ fn names_are_looked_at(rt: HostRuntime) {
     }
 }
 
-/// A port without a receive right, one in a set that doesn't exist, two that carry each other, and a message of odd
-/// size: each is refused.
+/// Each is refused: a port without a receive right, one in a set that doesn't exist, two that carry each other, and a
+/// message of odd size.
 static PORTS: [&'static [PortRow]; 4] = [
     &[(1, None, None, false), (2, None, None, false)],
     &[(1, Some(0x105), Some(2), false), (2, None, None, false)],
@@ -191,7 +191,7 @@ fn ports_are_looked_at(rt: HostRuntime) {
     }
 }
 
-/// A space keeps a reply under a number that isn't 0, and there is a row for each space and no other.
+/// A kept reply has a request other than 0, and there is one row for each space.
 #[test]
 fn kept_replies_are_looked_at(rt: HostRuntime) {
     let rows: [(&[Option<(u32, u32)>], bool); 4] = [

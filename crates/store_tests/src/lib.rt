@@ -1,6 +1,6 @@
-//! Tests of the running state and of the store that holds it. Of the state's parts: each call that takes memory is done
-//! if there is enough, and changes are committed and rolled back. Of the kernel over them: calls and their answers, and
-//! the bounds. Of the store: a disk that crashes, the journal, and recovery. The rest is proved.
+//! Tests of the running state and its store. Parts of the state: each call that allocates succeeds with enough memory,
+//! and changes are committed and rolled back. The kernel: calls and their replies, and the bounds. The store: a disk
+//! that crashes, the journal, and recovery. The rest is proved.
 #![tactic(auto)]
 
 #[cfg(test)]

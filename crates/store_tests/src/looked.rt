@@ -1,4 +1,4 @@
-//! What a look at a store reports; it changes nothing.
+//! The result of reading a store without opening it, which changes nothing.
 use crate::expect::same;
 use crate::store::Store;
 use disk::{Disk, MemDisk};
@@ -6,7 +6,7 @@ use recover::look;
 use std::alloc::Global;
 use store_fault::StoreFault;
 
-/// What a look reports of a store: its epoch, its records, the next serial, and how many spaces it has.
+/// Returns the epoch of a store, its records, the next serial, and the number of its spaces.
 pub(crate) fn looked<D: Disk>(
     alloc: Global,
     disk: &mut D,
@@ -21,13 +21,13 @@ pub(crate) fn looked<D: Disk>(
     ))
 }
 
-/// The look at an empty disk.
+/// Reads an empty disk.
 fn look_at_nothing<S: Store + Drop>(alloc: Global) -> Result<(u64, u64, u64, usize), StoreFault> {
     let mut disk = S::empty(alloc);
     looked(alloc, &mut disk)
 }
 
-/// The look at a store that was made and closed.
+/// Reads a store that was made and closed.
 fn look_at_made<S: Store + Drop>(
     alloc: Global,
 ) -> Option<Result<(u64, u64, u64, usize), StoreFault>> {

@@ -1,5 +1,5 @@
-//! A kernel as the tests see it. Its methods have no clauses, so that a test's proof carries nothing of a state: what
-//! is known of a kernel would be written out at each exit of a function that owns one.
+//! A kernel as the tests use it. Its methods have no contracts, so that a test's proof needn't carry the contracts of a
+//! kernel through each exit of a function that owns one.
 
 use crate::asked::Asked;
 use crate::recorded::Counter;
@@ -14,43 +14,42 @@ pub(crate) type Words = [u32; 4];
 
 /// Makes calls and replays records.
 pub(crate) trait Machine {
-    /// One in the opening state, if there is memory.
+    /// Creates a machine in the opening state, or returns `None` if out of memory.
     fn opened(alloc: Global) -> Option<Self>;
 
-    /// One in the state of a copy, if that is one of a kernel.
+    /// Creates a machine in the state of a copy, or returns `None` if it isn't one of a kernel.
     fn of_copy(alloc: Global, copy: Snapshot) -> Option<Self>;
 
-    /// A copy of the state, if there is memory.
+    /// Returns a copy of the state, or `None` if out of memory.
     fn copied(&self, alloc: Global) -> Option<Snapshot>;
 
-    /// This one after a record's step.
+    /// Returns this machine after a record's step.
     fn replayed(self, record: &Record) -> Result<Self, ReplayFault>;
 
-    /// Makes a call, if there is memory.
+    /// Makes a call, or returns `None` if out of memory.
     fn make(&mut self, space: u32, call: &Call) -> Option<Words>;
 
-    /// Makes a call of space 1, if there is memory for it and for its record.
+    /// Makes a call of space 1, or returns `None` if there is no memory for it and its record.
     fn make_recorded(&mut self, alloc: Global, call: &Call, counter: &mut Counter) -> Option<Words>;
 
-    /// The answer to a call that has no record, if there is memory.
+    /// Returns the reply to a call that isn't recorded, or `None` if out of memory.
     fn answered(&self, space: u32, call: &Call) -> Option<Option<Words>>;
 
-    /// The same in place.
+    /// Returns the same without a copy of the state.
     fn answered_in_place(&mut self, space: u32, call: &Call) -> Option<Option<Words>>;
 
-    /// The type of a name.
+    /// Returns the type of a name.
     fn type_of(&self, space: u32, name: u32) -> Words;
 
-    /// The send references of the name 0x100 in space 1.
+    /// Returns the send references of the name 0x100 in space 1.
     fn references(&self) -> Words;
 
-    /// The status of the port of that name.
+    /// Returns the status of the port of that name.
     fn status(&self) -> Words;
 }
 
-/// The first words of a reply's frame, as far as they are compared here: the call's number, the code, and two results,
-/// of a port's status the messages and the make-send count; of a message its code, size and member, and the call's
-/// number.
+/// Returns the first words of a reply's frame that are compared here: the call's number, the code, and two results; of
+/// a port's status the messages and the make-send count; of a message its code, size and member, and the call's number.
 fn words_of(reply: &Reply) -> Words {
     match reply {
         Reply::Plain(PlainReply::Refused { number, code }) => [*number, code.number(), 0, 0],
@@ -77,14 +76,14 @@ fn words_of(reply: &Reply) -> Words {
     }
 }
 
-/// The words of a reply that isn't needed after that.
+/// Returns the words of a reply, and drops it.
 fn words(reply: Reply) -> Words {
     let words = words_of(&reply);
     drop(reply);
     words
 }
 
-/// The words of an answer, if there is one.
+/// Returns the words of a reply, if there is one.
 fn words_of_answer(answer: Option<Reply>) -> Option<Words> {
     Some(words(answer?))
 }
@@ -143,7 +142,7 @@ impl Machine for Kernel {
     }
 }
 
-/// Makes a call that isn't needed after that.
+/// Makes a call, and drops it.
 pub(crate) fn make<M: Machine>(machine: &mut M, space: u32, call: Call) -> Option<Words> {
     let words = machine.make(space, &call);
     drop(call);
@@ -155,7 +154,7 @@ pub(crate) fn ask<M: Machine>(machine: &mut M, space: u32, asked: Asked) -> Opti
     make(machine, space, asked.call())
 }
 
-/// Makes calls of space 1, whatever they answer.
+/// Makes calls of space 1, regardless of their replies.
 pub(crate) fn ask_all<M: Machine>(machine: &mut M, calls: &[Asked]) -> Option<()> {
     for asked in calls {
         ask(machine, 1, *asked)?;
@@ -163,12 +162,12 @@ pub(crate) fn ask_all<M: Machine>(machine: &mut M, calls: &[Asked]) -> Option<()
     Some(())
 }
 
-/// One in the state after a record.
+/// Returns a machine in the state after a record.
 fn after<M: Machine>(alloc: Global, record: &Record) -> Option<M> {
     M::opened(alloc)?.replayed(record).ok()
 }
 
-/// The record of an allocation in space 1.
+/// Returns the record of an allocation in space 1.
 pub(crate) fn allocated(right: u32, name: u32) -> Record {
     Record {
         space: 1,
@@ -177,7 +176,7 @@ pub(crate) fn allocated(right: u32, name: u32) -> Record {
     }
 }
 
-/// One in the state after an allocation.
+/// Returns a machine in the state after an allocation.
 pub(crate) fn after_allocated<M: Machine>(alloc: Global, right: u32, name: u32) -> Option<M> {
     let record = allocated(right, name);
     let machine = after(alloc, &record);

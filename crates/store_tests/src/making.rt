@@ -1,5 +1,4 @@
-//! A stored record and the segment that stores it. The functions here have no contract, so that a test's proof doesn't
-//! carry it along.
+//! A stored record and its segment. The functions have no contracts, so that a test's proof carries nothing of them.
 ghost use Rattle.std.specs.Prelude.{◌≤◌, length};
 ghost use Rattle.codes.specs.declared.limits.TheConstants.{MAX_FRAME_CONTENT};
 ghost use Rattle.ipc_model.specs.encodings.Encodings.{call_encoding, reply_encoding};
@@ -18,10 +17,10 @@ pub(crate) static SEGMENT: [u8; 70] = [
     0, 0, 0, 0, 0, 0, 1, 0, 0, 0,
 ];
 
-/// A segment of epoch 0 with no batch.
+/// A segment of epoch 0 without batches.
 pub(crate) static NEW_SEGMENT: [u8; 17] = [0x5a, 2, 0, 0, 0, 0, 0, 0, 0, 0, 0, 0, 0, 0, 0, 0, 0];
 
-/// The allocation of a name, done.
+/// Returns the record of a successful allocation of a name.
 #[tactic(auto, unfolding(ipc_model::specs::encodings::PlainCalls::call_encoding, ipc_model::specs::encodings::PlainCalls::reply_encoding))]
 fn allocation(name: u32) -> Record
     ensures call { length (call_encoding result.call) ≤ MAX_FRAME_CONTENT }
@@ -34,7 +33,7 @@ fn allocation(name: u32) -> Record
     }
 }
 
-/// Adds the record with this number, the allocation of a name: the first one plus the number's lowest byte.
+/// Adds the record with this number: the allocation of the name 0x100 plus `first` plus the number's lowest byte.
 fn add_allocation(batch: &mut Batch, number: u64, first: u8) -> Result<(), StoreFault> {
     if batch.count() == u32::MAX {
         return Err(StoreFault::Full);
@@ -47,7 +46,7 @@ fn add_allocation(batch: &mut Batch, number: u64, first: u8) -> Result<(), Store
     Ok(())
 }
 
-/// Adds `count` records, numbered from this number on, where record 0 allocates this name after 0x100.
+/// Adds `count` records, from this number on, where record 0 allocates the name 0x100 plus `first`.
 fn add_allocations(batch: &mut Batch, number: u64, count: u8, first: u8) -> Result<(), StoreFault> {
     for at in 0..count {
         let number = number.saturating_add(u64::from(at));
@@ -56,14 +55,14 @@ fn add_allocations(batch: &mut Batch, number: u64, count: u8, first: u8) -> Resu
     Ok(())
 }
 
-/// A batch of these records.
+/// Returns a batch of these records.
 fn batch_of(alloc: Global, number: u64, count: u8, first: u8) -> Result<Batch, StoreFault> {
     let mut batch = Batch::new(alloc);
     add_allocations(&mut batch, number, count, first)?;
     Ok(batch)
 }
 
-/// A segment of epoch 0 that is said to hold `records` records.
+/// Returns a segment value of epoch 0 with `records` records.
 pub(crate) fn segment_of(records: u64) -> Segment {
     Segment { epoch: 0, records }
 }
@@ -76,7 +75,7 @@ fn append<D: Disk>(segment: &mut Segment, disk: &mut D, batch: &Batch) -> Result
     segment.append(disk, batch)
 }
 
-/// Appends a batch of `count` records, where record 0 of the segment allocates this name after 0x100.
+/// Appends a batch of `count` records, where record 0 of the segment allocates the name 0x100 plus `first`.
 pub(crate) fn append_from<D: Disk>(
     alloc: Global,
     segment: &mut Segment,

@@ -3,11 +3,11 @@ use crate::names::{add_space, hold, remove};
 use codes::MAX_NAMES;
 use spaces::Spaces;
 
-/// How many spaces are filled.
+/// Number of spaces that are filled.
 const SPACES: u32 = 16;
 
-/// Gives the least unused name of a space to a send right to port 7, and commits that: names that were taken out of
-/// use, with no commit or rollback since, are passed over one by one.
+/// Puts a send right to port 7 under the least unused name of a space, and commits that. Names that were removed since
+/// the last commit or rollback are skipped one by one.
 fn hand_out(spaces: &mut Spaces, space: u32) -> Option<u32> {
     let name = spaces.free_name(space);
     hold(spaces, space, name, 7, None)?;
@@ -15,7 +15,7 @@ fn hand_out(spaces: &mut Spaces, space: u32) -> Option<u32> {
     Some(name)
 }
 
-/// Gives out as many names as a space may have.
+/// Puts rights under the maximum number of names.
 fn fill(spaces: &mut Spaces, space: u32) -> Option<()> {
     for _name in 0..MAX_NAMES {
         hand_out(spaces, space)?;
@@ -23,7 +23,7 @@ fn fill(spaces: &mut Spaces, space: u32) -> Option<()> {
     Some(())
 }
 
-/// Whether two names of a full space were taken out of use, and those that are given out then.
+/// Two names of a full space were removed; and the names that are given to rights then.
 type Again = ([Option<()>; 2], [Option<u32>; 2]);
 
 fn handed_out_again(spaces: &mut Spaces, space: u32) -> Again {
@@ -33,7 +33,7 @@ fn handed_out_again(spaces: &mut Spaces, space: u32) -> Again {
     )
 }
 
-/// Makes a full space, and returns how many names it has and those that are given out again.
+/// Fills a space. Returns the number of its names, and those that are given to rights again.
 fn filled_once(spaces: &mut Spaces, space: u32) -> Option<(usize, Again)> {
     add_space(spaces, space)?;
     fill(spaces, space)?;
@@ -43,7 +43,8 @@ fn filled_once(spaces: &mut Spaces, space: u32) -> Option<(usize, Again)> {
 
 const WANTED: (usize, Again) = (MAX_NAMES, ([Some(()); 2], [Some(0x800), Some(0x1000)]));
 
-/// In how many spaces the least unused names were given out again, and how many send rights to port 7 there are then.
+/// Returns the number of spaces in which the least unused names were given to rights again, and the number of send
+/// rights to port 7 then.
 fn filled(spaces: &mut Spaces) -> Option<(u32, u64)> {
     let mut right: u32 = 0;
     for space in 1..=SPACES {

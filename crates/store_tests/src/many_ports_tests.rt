@@ -3,7 +3,7 @@ use crate::sample::add_port;
 use codes::MAX_PORTS;
 use ports::Ports;
 
-/// Makes as many ports as may live, and returns the first serial.
+/// Makes the maximum number of ports, and returns the first serial.
 fn fill(ports: &mut Ports) -> Option<u64> {
     let first = ports.next_serial();
     for _port in 0..MAX_PORTS {
@@ -13,7 +13,7 @@ fn fill(ports: &mut Ports) -> Option<u64> {
     Some(first)
 }
 
-/// As many ports as may live die, from this serial on.
+/// Makes the maximum number of ports die, from this serial on.
 fn bury_all(ports: &mut Ports, first: u64) -> Option<()> {
     for port in 0..MAX_PORTS as u64 {
         ports.bury(first.wrapping_add(port)).ok()?;
@@ -22,10 +22,11 @@ fn bury_all(ports: &mut Ports, first: u64) -> Option<()> {
     Some(())
 }
 
-/// The first serial, how many ports lived, whether no more could have been made, and how many live then.
+/// The first serial, the number of live ports, a flag that no more could have been made, and the number of live ports
+/// then.
 type Round = (u64, usize, bool, usize);
 
-/// Makes as many ports as may live, which then die.
+/// Makes the maximum number of ports, which then die.
 fn round(ports: &mut Ports) -> Option<Round> {
     let first = fill(ports)?;
     let (most, full) = (ports.len(), ports.is_full());

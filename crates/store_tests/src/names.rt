@@ -13,7 +13,7 @@ pub(crate) fn add_space(spaces: &mut Spaces, space: u32) -> Option<()> {
     spaces.add(space).ok()
 }
 
-/// Makes a name of a space stand for this.
+/// Replaces the entry of a name in a space.
 fn put(spaces: &mut Spaces, space: u32, name: u32, entry: Entry) -> Option<()>
     requires { AreFewReferences entry }
 {
@@ -24,7 +24,7 @@ fn put(spaces: &mut Spaces, space: u32, name: u32, entry: Entry) -> Option<()>
     Some(())
 }
 
-/// Makes a name stand for a send right, with the target of a dead-name request.
+/// Puts a send right under a name, with the target of a dead-name request.
 pub(crate) fn hold(
     spaces: &mut Spaces,
     space: u32,
@@ -41,7 +41,7 @@ pub(crate) fn hold(
     put(spaces, space, name, Entry::Port(rights))
 }
 
-/// Makes a name stand for a send-once right, with the target of a dead-name request.
+/// Puts a send-once right under a name, with the target of a dead-name request.
 pub(crate) fn hold_once(
     spaces: &mut Spaces,
     space: u32,
@@ -56,13 +56,13 @@ pub(crate) fn hold_once(
     put(spaces, space, name, once)
 }
 
-/// Takes a name out of use.
+/// Removes a name.
 pub(crate) fn remove(spaces: &mut Spaces, space: u32, name: u32) -> Option<()> {
     spaces.remove_name(space, name).ok()?;
     Some(())
 }
 
-/// Makes what stands under one name stand under another.
+/// Moves the entry of one name to another.
 pub(crate) fn rename(spaces: &mut Spaces, space: u32, from: u32, to: u32) -> Option<()> {
     if spaces.entry(space, to).is_some() {
         return None;

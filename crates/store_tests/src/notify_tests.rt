@@ -4,7 +4,7 @@ use ipc_model::{CarriedRight, PortInMessage, RightKind};
 use notify::{message, port_destroyed};
 use std::alloc::Global;
 
-/// A notice's message without rights: its id, and whether this is its body.
+/// Returns the id of a notice's message, which carries no rights, and true if this is its body.
 fn said(alloc: Global, notice: Notice, body: &[u8]) -> Option<(u32, bool)> {
     let message = message(alloc, notice).ok()?;
     let seen = (message.id, message.body.as_slice() == body);
@@ -16,7 +16,7 @@ fn said(alloc: Global, notice: Notice, body: &[u8]) -> Option<(u32, bool)> {
 fn notices_say_whom_they_tell_of(rt: HostRuntime) {
     let alloc = rt.alloc();
     let name = 0x0102_0304;
-    // One word, by its kind word and its number.
+    // A type descriptor of one word, and its number.
     let named = &[0x0f, 0x20, 0x01, 0x10, 4, 3, 2, 1];
     let count = &[0x02, 0x20, 0x01, 0x10, 3, 0, 0, 0];
     let seen = [
@@ -34,10 +34,11 @@ fn notices_say_whom_they_tell_of(rt: HostRuntime) {
     same(&rt, seen, wanted);
 }
 
-/// What is compared of a message with a right: its id, whether it is complex, how many rights it has, and the first.
+/// The compared properties of a message with a right: its id, true if it is complex, the number of its rights, and the
+/// first right.
 type Carried = (u32, bool, usize, Option<CarriedRight>);
 
-/// What the notice of a port's destruction carries.
+/// Returns these properties of the notice about a port's destruction.
 fn carried_by_notice(alloc: Global, serial: u64) -> Option<Carried> {
     let message = port_destroyed(alloc, serial).ok()?;
     let seen = (

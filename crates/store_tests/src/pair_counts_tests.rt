@@ -1,10 +1,10 @@
 use crate::expect::same;
 use port_indexes::PairCounts;
 
-/// Two of (5, 9), and one of (5, 7) and of (6, 1).
+/// The pair (5, 9) twice, and (5, 7) and (6, 1) once.
 static COUNTED: [(u64, u64); 4] = [(5, 9), (5, 7), (6, 1), (5, 9)];
 
-/// Counts these, and commits that.
+/// Adds these pairs to the counts, and commits that.
 fn count(counts: &mut PairCounts) -> Option<()> {
     for (first, second) in &COUNTED {
         counts.add(*first, *second).ok()?;
@@ -13,22 +13,22 @@ fn count(counts: &mut PairCounts) -> Option<()> {
     Some(())
 }
 
-/// The counts of (5, 7) and (5, 9), and the least number that stands with 5.
+/// The counts of (5, 7) and (5, 9), and the least second number of a pair with 5.
 type OfFive = ([u64; 2], Option<u64>);
 
 fn of_five(counts: &PairCounts) -> OfFive {
     ([counts.count(5, 7), counts.count(5, 9)], counts.least(5))
 }
 
-/// One less of (5, 9), and none of (5, 7): whether each was done, and what stands with 5 then.
+/// Subtracts one from (5, 9), and clears (5, 7). Returns flags that each was done, and the pairs with 5 then.
 fn count_fewer(counts: &mut PairCounts) -> ([Option<()>; 2], OfFive) {
     let fewer = counts.subtract(5, 9).ok();
     let cleared = counts.clear(5, 7).ok();
     ([fewer, cleared], of_five(counts))
 }
 
-/// Which steps were done; and what stands with 5: at first, with one less of (5, 9) and none of (5, 7), with none of
-/// (5, 9) either, once all is rolled back, and once the first change is made again and committed.
+/// Returns the steps that were done; and the pairs with 5: at first, after (5, 9) was decremented and (5, 7) cleared,
+/// after (5, 9) was cleared too, after a rollback, and after the first change was made again and committed.
 fn changed(counts: &mut PairCounts) -> ([Option<()>; 6], [OfFive; 5]) {
     let counted = count(counts);
     let first = of_five(counts);

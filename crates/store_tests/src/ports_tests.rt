@@ -8,7 +8,7 @@ use ipc_model::{CarriedRight, Message, PortInMessage, RightKind, Sequence};
 use ports::{PortNumbers, Ports};
 use std::alloc::{AllocError, Global};
 
-/// A message by a send right, with a right for the reply and a right in its body, both to one port.
+/// Returns a message by a send right, with a reply right and a right in its body, both to one port.
 fn message(alloc: Global, kind: RightKind, port: u64) -> Result<Message, AllocError>
     ensures reply { IfOk result (λ message. message.reply
         ≡ Some (record { kind = kinds.SendOnce; port = in_message.Live port })) }
@@ -31,8 +31,7 @@ fn message(alloc: Global, kind: RightKind, port: u64) -> Result<Message, AllocEr
     })
 }
 
-/// Queues a message with rights to a port. If the port doesn't live, that is reported as out of memory: no test expects
-/// either.
+/// Queues a message with rights to a port. A dead port is reported as out of memory; no test expects either.
 fn send(
     alloc: Global,
     ports: &mut Ports,
@@ -46,7 +45,7 @@ fn send(
     ports.push(to, message(alloc, kind, port)?)
 }
 
-/// Requests that port 1 be notified when port 3 has no senders.
+/// Sets a no-senders request of port 3 with port 1 as its target.
 fn request(ports: &mut Ports) -> Option<()> {
     let numbers = ports.numbers(3)?;
     let asked = PortNumbers {
@@ -56,7 +55,7 @@ fn request(ports: &mut Ports) -> Option<()> {
     ports.set_numbers(3, asked).ok()
 }
 
-/// Makes ports 1 to 3, and commits them. In the queue of port 2 travel rights to port 1, and the receive right of port
+/// Makes ports 1 to 3, and commits them. The queue of port 2 contains rights to port 1, and the receive right of port
 /// 3.
 fn fill(alloc: Global, ports: &mut Ports) -> [Option<()>; 6] {
     let filled = [
@@ -71,28 +70,28 @@ fn fill(alloc: Global, ports: &mut Ports) -> [Option<()>; 6] {
     filled
 }
 
-/// Whether all of that was done, and three steps after it.
+/// All of that was done, and three steps after it.
 type Done = ([Option<()>; 6], [Option<()>; 3]);
 
 const DONE: Done = ([Some(()); 6], [Some(()); 3]);
 
-/// What stands in the place of the reply right's port in a port's oldest message.
+/// Returns the port of the reply right in a port's oldest message.
 fn reply_port(ports: &Ports) -> Option<PortInMessage> {
     let message = ports.message_as_sent(2, 0)?;
     let reply = message.reply?;
     Some(ports.seen(reply).port)
 }
 
-/// What stands in the place of the first port of the body of the oldest message of port 2.
+/// Returns the first port in the body of the oldest message of port 2.
 fn body_port(ports: &Ports) -> Option<PortInMessage> {
     let message = ports.message_as_sent(2, 0)?;
     let right = message.rights.as_slice().first()?;
     Some(ports.seen(*right).port)
 }
 
-/// What is seen of the ports: the send and send-once rights to port 1, the send rights to port 2 and the send-once
-/// rights to port 3; the port in whose queue the receive right of port 3 travels; how many messages port 2 has, and
-/// what its oldest has in the places of ports; and the target of the request of port 3.
+/// The observed state of the ports: the numbers of send and send-once rights to port 1, of send rights to port 2 and of
+/// send-once rights to port 3; the port whose queue contains the receive right of port 3; the number of messages of
+/// port 2, and the ports in its oldest message; and the target of the request of port 3.
 type Picture = (
     [u64; 4],
     Option<u64>,
@@ -120,8 +119,8 @@ fn seen(ports: &Ports) -> Picture {
     )
 }
 
-/// Which steps were done; and what is seen: at first, once port 1 has died, once port 2 has died too, once all is
-/// rolled back, and once port 1 has died again and this is committed.
+/// Returns the steps that were done; and the observed state: at first, after port 1 has died, after port 2 has died
+/// too, after a rollback, and after port 1 has died again and this is committed.
 fn buried(alloc: Global, ports: &mut Ports) -> (Done, [Picture; 5]) {
     let filled = fill(alloc, ports);
     let first = seen(ports);
@@ -168,8 +167,8 @@ fn ports_die_and_live_again(rt: HostRuntime) {
     same(&rt, seen, BURIED);
 }
 
-/// Which steps were done; and what is seen: once the oldest message of port 2 is taken, once the other one is taken
-/// too, once all is rolled back, and once the oldest is taken again and this is committed.
+/// Returns the steps that were done; and the observed state: after the oldest message of port 2 is taken, after the
+/// other one is taken too, after a rollback, and after the oldest is taken again and this is committed.
 fn taken(alloc: Global, ports: &mut Ports) -> (Done, [Picture; 4]) {
     let filled = fill(alloc, ports);
     let first_taken = ports.take(2).ok();

@@ -12,7 +12,7 @@ fn fill(alloc: Global, queue: &mut Queue, ids: &[u32]) -> Option<()> {
     Some(())
 }
 
-/// The id of the message at an index, if there is one.
+/// Returns the id of the message at an index, if there is one.
 fn id_at(queue: &Queue, index: u32) -> Option<u32> {
     if index < queue.len() {
         Some(queue.message(index).id)
@@ -28,8 +28,8 @@ fn ids(queue: &Queue) -> Ids {
     [id_at(queue, 0), id_at(queue, 1), id_at(queue, 2)]
 }
 
-/// Whether a first message was queued, and one whatever the limit; what becomes of two pushes under a limit between
-/// them; and how many messages there are then.
+/// A first message was queued, and one regardless of the limit; the results of two pushes under a limit between them;
+/// and the number of messages then.
 type Pushed = ([Option<()>; 2], [Result<(), PushFault>; 2], u32);
 
 fn pushed(alloc: Global, queue: &mut Queue) -> Pushed {
@@ -49,14 +49,14 @@ fn a_queue_is_full_at_its_limit(rt: HostRuntime) {
     same(&rt, seen, ([Some(()); 2], answers, 3));
 }
 
-/// One message is taken, and one pushed.
+/// Takes one message, and pushes one.
 fn take_and_push(alloc: Global, queue: &mut Queue) -> Option<()> {
     queue.take();
     queue.push_forced(empty(alloc, 3)).ok()
 }
 
-/// Which steps were done; and the ids of messages of which one was taken and one pushed: so far, once that is rolled
-/// back, and once it is done again and committed.
+/// Returns the steps that were done; and the ids of messages after one was taken and one pushed, after a rollback, and
+/// after the same is done again and committed.
 fn changed(alloc: Global, queue: &mut Queue) -> ([Option<()>; 3], [Ids; 3]) {
     let filled = fill(alloc, queue, &[1, 2]);
     let pushed = take_and_push(alloc, queue);

@@ -6,7 +6,7 @@ use ipc_model::{Call, Reply};
 use kernel::{Kernel, Recorder};
 use std::alloc::{AllocError, Global};
 
-/// Counts the records that it is given, if it has memory.
+/// Counts the records that it is given, unless it is out of memory.
 #[derive(Drop)]
 pub(crate) struct Counter {
     has_memory: bool,
@@ -27,15 +27,15 @@ impl Recorder for Counter {
     }
 }
 
-/// What is seen of a kernel: its calls that take no memory, the type of the next name, and how many records were
-/// counted.
+/// The observed state of a kernel: its calls that allocate nothing, the type of the next name, and the number of
+/// counted records.
 type Seen = ([Words; 4], Words, u32);
 
 fn seen<M: Machine>(machine: &M, counter: &Counter) -> Seen {
     (read(machine), machine.type_of(1, 0x101), counter.written)
 }
 
-/// Whether a call changes nothing if memory for its record runs out; and what it answers if there is memory.
+/// Returns true if a call changes nothing when there is no memory for its record; and the reply when there is memory.
 fn tried<M: Machine>(alloc: Global, machine: &mut M, call: &Call) -> (bool, Option<Words>, u32) {
     let mut counter = Counter {
         has_memory: false,
@@ -49,7 +49,7 @@ fn tried<M: Machine>(alloc: Global, machine: &mut M, call: &Call) -> (bool, Opti
     (refused && is_same, answer, counter.written)
 }
 
-/// The same for a call in a state with one port.
+/// Returns the same for a call in a state with one port.
 fn tried_alongside_one_port<M: Machine + Drop>(
     alloc: Global,
     asked: Asked,

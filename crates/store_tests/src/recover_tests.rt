@@ -9,14 +9,14 @@ use std::alloc::{AllocError, Global};
 use std::process::Abort;
 use store_fault::StoreFault;
 
-// The image of the opening state, epoch 0.
+// The image of the opening state, of epoch 0.
 static IMAGE: [u8; 52] = [
     0x5a, 2, 0, 0, 0, 0, 0, 0, 0, 0, 0, 0, 0, 0, 0, 0, 28, 0, 0, 0, 0, 0, 0, 0, 1, 0, 0, 0, 0, 0,
     0, 0, 1, 0, 0, 0, 1, 0, 0, 0, 0, 0, 0, 0, 0, 0, 0, 0, 0, 0, 0, 0,
 ];
 
-// What opening a store returned: how many records it holds, the type bits of the names 0x100, 0x163 and 0x164, 0 for
-// one that isn't in use, and how long segment 0 is now.
+// The result of opening a store: the number of its records; the type bits of the names 0x100, 0x163 and 0x164, 0 for
+// one that isn't in use; and the length of segment 0 then.
 type Found = Result<(u64, [u32; 3], usize), StoreFault>;
 
 const EMPTY: Found = Ok((0, [0, 0, 0], 17));
@@ -29,7 +29,7 @@ const PAIR: Found = Ok((2, [0x20000, 0, 0], 110));
 // A hundred records of allocations, of the names from 0x100 on.
 const HUNDRED: Found = Ok((100, [0x20000, 0x20000, 0], 5_317));
 
-// What opening a store returns, and its disk.
+// Opens a store, and returns the result and the disk.
 fn opened<S: Store + Drop>(alloc: Global, disk: S) -> (Found, S) {
     let (opening, disk) = disk.open(alloc, &[0x100, 0x163, 0x164, 0x164]);
     let length = disk.bytes(Slot::Segment0).len();
@@ -54,14 +54,14 @@ fn opened_with<S: Store + Drop>(alloc: Global, image0: &[u8], segment0: &[u8]) -
     Some(reopened(alloc, disk))
 }
 
-// A new store with the record of `SEGMENT`.
+// Returns a new store with the record of `SEGMENT`.
 fn stored<S: Store + Drop>(alloc: Global) -> Option<S> {
     let (mut disk, mut segment) = S::empty(alloc).go_on(alloc)?;
     append_allocations(alloc, &mut segment, &mut disk, 1).ok()?;
     Some(disk)
 }
 
-// Whether such a store has the image and the segment that it should have, and what opening it and a new one returns.
+// Such a store has the expected image and segment; and the results of opening it and a new one.
 fn made<S: Store + Drop>(alloc: Global) -> Option<([bool; 2], [Found; 2])> {
     let disk = stored::<S>(alloc)?;
     let are_made = [
@@ -78,7 +78,7 @@ fn a_new_store_is_made(rt: HostRuntime) {
     same(&rt, seen, Some(([true; 2], [STORED, EMPTY])));
 }
 
-// What opening a store returns if its image or segment has another byte at a place.
+// Returns the result of opening a store whose image or segment has another byte at an offset.
 fn corrupted<S: Store + Drop>(alloc: Global, is_image: bool, at: usize, byte: u8) -> Option<Found> {
     let mut image0 = IMAGE;
     let mut segment0 = SEGMENT;
@@ -95,7 +95,8 @@ const DAMAGED: Found = Err(StoreFault::Damaged);
 
 const VERSION: Found = Err(StoreFault::Version);
 
-// A version of 1 makes the image none; the segment has the same record then, and the store goes on in the next one.
+// The image isn't valid in version 1. The segment has the same record in version 1, and the store continues in the next
+// epoch.
 static CORRUPTED: [(bool, usize, u8, Found); 11] = [
     (true, 0, 0, DAMAGED),
     (true, 1, 1, DAMAGED),
@@ -118,7 +119,7 @@ fn corrupted_bytes(rt: HostRuntime) {
     }
 }
 
-// What opening a store returns if its segment is truncated to `length` bytes.
+// Returns the result of opening a store whose segment is truncated to `length` bytes.
 fn cut<S: Store + Drop>(alloc: Global, length: usize) -> Option<Found> {
     opened_with::<S>(alloc, &IMAGE, SEGMENT.get(..length)?)
 }
@@ -139,13 +140,13 @@ fn cut_segments(rt: HostRuntime) {
     }
 }
 
-// Where one of the last records has its number's lowest byte.
+// Offset of the lowest byte of the number of one of the last records.
 const LATE_NUMBER: usize = 16 + 19_990 * 53 + 13;
 
-// How long a segment of 20,000 records is.
+// Length of a segment of 20,000 records.
 const LONG: usize = 16 + 20_000 * 53 + 1;
 
-// What opening a store of many records returns, and one in which a record has another number than the last.
+// Returns the results of opening a store of many records, and one in which a record has a wrong number.
 fn many_records<S: Store + Drop>(alloc: Global, segment: &mut [u8]) -> [Option<Found>; 2] {
     let whole = opened_with::<S>(alloc, &IMAGE, segment);
     if set(segment, LATE_NUMBER, 0).is_none() {
@@ -169,18 +170,18 @@ fn stores_of_many_records(rt: HostRuntime) {
     same(&rt, seen, Some([Some(whole), Some(DAMAGED)]));
 }
 
-// `SEGMENT` with another version.
+// `SEGMENT` with an unknown version.
 static OTHER: [u8; 70] = [
     0x5a, 3, 0, 0, 0, 0, 0, 0, 0, 0, 0, 0, 0, 0, 0, 0, 0x5a, 1, 0, 0, 0, 40, 0, 0, 0, 0, 0, 0, 0,
     0, 0, 0, 0, 0, 0, 0, 0, 1, 0, 0, 0, 8, 0, 0, 0, 5, 0, 0, 0, 1, 0, 0, 0, 12, 0, 0, 0, 5, 0, 0,
     0, 0, 0, 0, 0, 0, 1, 0, 0, 0,
 ];
 
-// How many bytes of an image and a segment the second slots have, whether the segment is of another version, and what
-// opening the store returns.
+// The lengths of an image and a segment in the second slots, a flag that the segment has an unknown version, and the
+// result of opening the store.
 type Second = (usize, usize, bool, Found);
 
-// What opening a store with a stored record returns if the second slots have these.
+// Returns the result of opening a store with a stored record if the second slots have these contents.
 fn alongside<S: Store + Drop>(alloc: Global, row: &Second) -> Option<Found> {
     let (image1, segment1, is_other, _) = *row;
     let segment = if is_other { &OTHER } else { &SEGMENT };
@@ -204,7 +205,7 @@ fn second_slots(rt: HostRuntime) {
     }
 }
 
-// Stores a batch of `count` records, and opens what a crash at a device call leaves.
+// Stores a batch of `count` records, and opens the store that a crash at a device call leaves.
 fn stopped<S: Store + Drop>(alloc: Global, count: u8, stop_at: u64, torn: Torn) -> Option<Found> {
     let mut disk: S = disk_with(alloc, &IMAGE, &NEW_SEGMENT)?;
     disk.plan_faults(Some(stop_at), None, torn);
@@ -212,7 +213,7 @@ fn stopped<S: Store + Drop>(alloc: Global, count: u8, stop_at: u64, torn: Torn) 
     Some(reopened(alloc, disk.stop()?))
 }
 
-// What the gate is filled with, and whether it is then an open one.
+// The contents that a crash leaves of the gate, and true if that is an open gate.
 static GATES: [(Torn, bool); 5] = [
     (Torn::Old, false),
     (Torn::New, true),
@@ -240,10 +241,10 @@ fn crashes_within_an_append(rt: HostRuntime) {
     }
 }
 
-// Stores: whether there is an image, how many batches the segment has, how many bytes are left of it, how many device
-// calls an opening makes (four syncs and four reads of headers; then the making, or reads of the image's version,
-// its length and its encoding, of the segment's version and of what stands after its header, and the segment's end),
-// and what it finds.
+// Stores: true if there is an image; the number of batches in the segment; the number of bytes left of it; the number
+// of device calls in an opening (four syncs and four reads of headers; then the creation, or reads of the image's
+// version, its length and its encoding, of the segment's version and of the bytes after its header, and the segment's
+// end); and the result.
 type Described = (bool, u8, usize, u64, Found);
 
 static STORES: [Described; 3] = [
@@ -252,10 +253,10 @@ static STORES: [Described; 3] = [
     (true, 100, 5_317, 15, HUNDRED),
 ];
 
-// Segments with no gate after their batches, which no server leaves.
+// Segments without a gate after their batches, which no server leaves.
 static FOREIGN: [Described; 2] = [(true, 1, 69, 15, STORED), (true, 0, 16, 14, EMPTY)];
 
-// The batch of `SEGMENT` with a number and a name of its own.
+// Returns the batch of `SEGMENT` with its own number and name.
 fn batch_of(number: u8) -> [u8; 53] {
     let mut batch = [0; 53];
     batch.copy_from_slice(&SEGMENT[16..69]);
@@ -271,7 +272,7 @@ fn add_batches(segment: &mut Vec<u8>, batches: u8) -> Result<(), AllocError> {
     segment.extend_from_slice(&[0])
 }
 
-// A segment of epoch 0 with `batches` such batches.
+// Returns a segment of epoch 0 with `batches` such batches.
 fn batches_of(alloc: Global, batches: u8) -> Result<Vec<u8>, AllocError> {
     let mut segment = SEGMENT[..16].to_vec(alloc)?;
     add_batches(&mut segment, batches)?;
@@ -285,7 +286,7 @@ fn disk_of<S: Store + Drop>(alloc: Global, store: &Described) -> Option<S> {
     disk_with(alloc, image, segment.get(..length).unwrap_or(&segment))
 }
 
-// Opens a store with a crash at a device call, and opens what that leaves.
+// Opens a store with a crash at a device call, and opens the store that it leaves.
 fn stopped_opening<S: Store + Drop>(
     alloc: Global,
     store: &Described,
@@ -315,8 +316,8 @@ fn crashes_within_an_opening(rt: HostRuntime) {
     }
 }
 
-// A crash within the write of the missing gate may leave an open one, which is then a damaged batch. Nothing else is
-// promised for such a segment; every other crash leaves what it stands for.
+// A crash during the write of the missing gate may leave an open one, which is then a damaged batch. Nothing else is
+// promised for such a segment; every other crash leaves the state.
 fn is_promised(store: &Described, torn: Torn, found: Found) -> bool {
     found == store.4 || torn == Torn::Fill(OPEN_GATE) && found == Err(StoreFault::Damaged)
 }

@@ -1,4 +1,4 @@
-//! Records and the result of their replay.
+//! Records and the results of their replay.
 use crate::asked::Asked;
 use crate::expect::same;
 use crate::machine::{Machine, Words, after_allocated, allocated, ask_all, make};
@@ -7,19 +7,19 @@ use ipc_model::{Call, PlainCall, PlainReply, Record, Reply, RightKind, Sequence}
 use kernel::{Kernel, ReplayFault};
 use std::alloc::Global;
 
-/// What a replay returns: its fault, or none; nothing if there is no memory.
+/// The result of a replay: its fault, or none; `None` if out of memory.
 type Found = Option<Option<ReplayFault>>;
 
 const DONE: Found = Some(None);
 
 const MISMATCH: Found = Some(Some(ReplayFault::Mismatch));
 
-/// The fault of a record's replay, if there is one.
+/// Returns the fault of a record's replay, if there is one.
 fn fault_of<M: Machine + Drop>(machine: Option<M>, record: &Record) -> Found {
     Some(machine?.replayed(record).err())
 }
 
-/// The fault if the record of an allocation is replayed.
+/// Returns the fault of replaying the record of an allocation.
 fn fault_of_allocated<M: Machine + Drop>(machine: Option<M>, right: u32, name: u32) -> Found {
     let record = allocated(right, name);
     let found = fault_of(machine, &record);
@@ -27,12 +27,12 @@ fn fault_of_allocated<M: Machine + Drop>(machine: Option<M>, right: u32, name: u
     found
 }
 
-/// The fault if such a record is the first of a new store.
+/// Returns the fault of replaying such a record as the first one of a new store.
 fn fault_at_first<M: Machine + Drop>(alloc: Global, right: u32, name: u32) -> Found {
     fault_of_allocated(M::opened(alloc), right, name)
 }
 
-/// The fault if such a record is replayed twice.
+/// Returns the fault of replaying such a record twice.
 fn fault_of_second<M: Machine + Drop>(alloc: Global, right: u32, name: u32) -> Found {
     fault_of_allocated(after_allocated::<M>(alloc, right, name), right, name)
 }
@@ -47,7 +47,7 @@ fn replays_a_record_once(rt: HostRuntime) {
     same(&rt, found, [MISMATCH; 3]);
 }
 
-/// The fault if a record follows the allocation of a port under 0x1ff.
+/// Returns the fault of replaying a record after the allocation of a port under 0x1ff.
 fn fault_after_a_port<M: Machine + Drop>(alloc: Global, call: Call, reply: Reply) -> Found {
     let record = Record {
         space: 1,
@@ -59,7 +59,7 @@ fn fault_after_a_port<M: Machine + Drop>(alloc: Global, call: Call, reply: Reply
     found
 }
 
-/// The fault if a right of that port is extracted under a name.
+/// Returns the fault of extracting a right to that port under a name.
 fn fault_of_extracted<M: Machine + Drop>(alloc: Global, name: u32) -> Found {
     let reply = Reply::Plain(PlainReply::Extracted {
         name,
@@ -79,7 +79,7 @@ fn replays_the_name_of_an_extracted_right(rt: HostRuntime) {
     }
 }
 
-/// The fault if a space with this number is created, with this name for a send right of that port.
+/// Returns the fault of creating a space with this number, with this name for a send right to that port.
 fn fault_of_space<M: Machine + Drop>(alloc: Global, space: u32, name: u32) -> Found {
     let create = Call::Plain(PlainCall::SpaceCreate {
         name: 0x1ff,
@@ -109,7 +109,7 @@ fn replays_the_number_of_a_new_space(rt: HostRuntime) {
     }
 }
 
-/// The fault if such an extraction is refused.
+/// Returns the fault of a refused extraction.
 fn fault_of_refused<M: Machine + Drop>(alloc: Global) -> Found {
     let refused = Reply::Plain(PlainReply::Refused {
         number: 18,
@@ -137,7 +137,7 @@ fn bytes_of(alloc: Global, bytes: &[u8]) -> Option<Sequence<u8>> {
     Some(Sequence::new(items))
 }
 
-/// A send to a port of the set, 0x100 or the one after it, by a send right made for it, with id 7.
+/// Returns a send to a port of the set, 0x100 or the next one, by a send right made for it, with id 7.
 fn send(alloc: Global, port: u8) -> Option<Call> {
     let encoding = [
         0x14, 0, 0, 0, 0, 0, 0, 0, port, 1, 0, 0, 0, 0, 0, 0, 0, 0, 0, 0, 7, 0, 0, 0,
@@ -146,7 +146,7 @@ fn send(alloc: Global, port: u8) -> Option<Call> {
     Some(Call::Plain(PlainCall::Send { message }))
 }
 
-/// The record of a receive from the set that took that port's message.
+/// Returns the record of a receive from the set that took that port's message.
 fn received(alloc: Global, port: u8) -> Option<Record> {
     let encoding = [
         0, 0x11, 0, 0, 24, 0, 0, 0, 0, 0, 0, 0, port, 1, 0, 0, 0, 0, 0, 0, 7, 0, 0, 0,
@@ -169,21 +169,21 @@ fn send_to<M: Machine>(alloc: Global, machine: &mut M, port: u8) -> Option<Words
     make(machine, 1, send(alloc, port)?)
 }
 
-/// Makes the set, and sends each of its ports a message.
+/// Creates the set, and sends each of its ports a message.
 fn fill_set<M: Machine>(alloc: Global, machine: &mut M) -> Option<Words> {
     ask_all(machine, &PORTS_IN_A_SET)?;
     send_to(alloc, machine, 0)?;
     send_to(alloc, machine, 1)
 }
 
-/// One in the state with that set and its messages.
+/// Returns a machine in the state with that set and its messages.
 fn with_set<M: Machine + Drop>(alloc: Global) -> Option<M> {
     let mut machine = M::opened(alloc)?;
     fill_set(alloc, &mut machine)?;
     Some(machine)
 }
 
-/// The fault if the record of a receive from that port is replayed.
+/// Returns the fault of replaying the record of a receive from that port.
 fn fault_of_receive<M: Machine + Drop>(alloc: Global, port: u8) -> Found {
     let record = received(alloc, port)?;
     let found = fault_of(with_set::<M>(alloc), &record);

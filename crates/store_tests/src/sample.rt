@@ -4,7 +4,7 @@ use ipc_model::{Message, RightKind, Sequence};
 use ports::Ports;
 use std::alloc::Global;
 
-/// Makes a port, if one more may be made.
+/// Adds a port, if one more may be made.
 pub(crate) fn add_port(ports: &mut Ports) -> Option<()> {
     if ports.is_full() || ports.next_serial() == u64::MAX {
         return None;
@@ -12,7 +12,7 @@ pub(crate) fn add_port(ports: &mut Ports) -> Option<()> {
     ports.add().ok()
 }
 
-/// A message by a send right that carries no rights.
+/// Returns a message by a send right, without other rights.
 pub(crate) fn empty(alloc: Global, id: u32) -> Message {
     Message {
         destination: RightKind::Send,

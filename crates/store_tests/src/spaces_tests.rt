@@ -5,8 +5,8 @@ use ipc_model::{Entry, PortRights};
 use spaces::Spaces;
 use std::alloc::Global;
 
-/// Makes spaces 2 and 1, and commits them. The names 0x102 and 0x105 of space 2 and 0x103 of space 1 stand for rights
-/// to port 7, each with a request.
+/// Adds spaces 2 and 1, and commits them. The names 0x102 and 0x105 of space 2 and 0x103 of space 1 have rights to port
+/// 7, each with a request.
 fn fill(spaces: &mut Spaces) -> [Option<()>; 5] {
     let filled = [
         add_space(spaces, 2),
@@ -40,7 +40,7 @@ fn names(alloc: Global, spaces: &Spaces) -> Option<Names> {
     Some(names)
 }
 
-/// One name of space 2 is renamed, one removed, and one put.
+/// Renames one name of space 2, removes one, and adds one.
 fn rename_and_remove(spaces: &mut Spaces) -> [Option<()>; 3] {
     [
         rename(spaces, 2, 0x105, 0x101),
@@ -49,11 +49,11 @@ fn rename_and_remove(spaces: &mut Spaces) -> [Option<()>; 3] {
     ]
 }
 
-/// Whether the space was filled and twice changed; and its names.
+/// The space was filled and twice changed; and its names.
 type Renamed = ([Option<()>; 5], [[Option<()>; 3]; 2], [Option<Names>; 4]);
 
-/// Which steps were done; and the names of space 2: at first, once they are changed, once that is rolled back, and once
-/// it is done again and committed.
+/// Returns the steps that were done; and the names of space 2: at first, after the changes, after a rollback, and after
+/// the changes are made again and committed.
 fn renamed(alloc: Global, spaces: &mut Spaces) -> Renamed {
     let filled = fill(spaces);
     let first = names(alloc, spaces);
@@ -96,7 +96,7 @@ fn next_notice(effects: &mut Effects) -> NoticeSeen {
     }
 }
 
-/// The dead-name notices for port 7 when it dies, in their order.
+/// Returns the dead-name notices about port 7 when it dies, in their order.
 fn reported(spaces: &mut Spaces, effects: &mut Effects) -> Option<[NoticeSeen; 4]> {
     spaces.bury(7, effects).ok()?;
     Some([
@@ -124,7 +124,8 @@ fn dead_names_come_by_space_and_name(rt: HostRuntime) {
     same(&rt, seen, (FILLED, Some(wanted)));
 }
 
-/// What the names stand for; how many send and send-once rights they hold to port 7, and send-once rights to port 9.
+/// The entries of the names; the numbers of their send and send-once rights to port 7, and of their send-once rights to
+/// port 9.
 type Held = ([Option<Entry>; 3], [u64; 3]);
 
 fn held(spaces: &Spaces) -> Held {
@@ -137,7 +138,7 @@ fn held(spaces: &Spaces) -> Held {
     (entries, counts)
 }
 
-/// A port dies, and no notice is sent.
+/// Makes a port die; no notice is sent.
 fn die(alloc: Global, spaces: &mut Spaces, port: u64) -> Option<()> {
     let mut effects = Effects::new(alloc);
     let done = spaces.bury(port, &mut effects).ok();
@@ -145,8 +146,8 @@ fn die(alloc: Global, spaces: &mut Spaces, port: u64) -> Option<()> {
     done
 }
 
-/// Which steps were done; and what is held: once port 9 has died, once port 7 has died too, once space 2 is gone, and
-/// once all is rolled back.
+/// Returns the steps that were done; and the entries: after port 9 has died, after port 7 has died too, after space 2
+/// is removed, and after a rollback.
 fn buried(alloc: Global, spaces: &mut Spaces) -> ([Option<()>; 5], [Option<()>; 3], [Held; 4]) {
     let filled = fill(spaces);
     let first_died = die(alloc, spaces, 9);
@@ -163,7 +164,7 @@ fn buried(alloc: Global, spaces: &mut Spaces) -> ([Option<()>; 5], [Option<()>; 
     )
 }
 
-/// A name for a send right to port 7.
+/// Returns an entry with a send right to port 7.
 fn send(dead_name_target: Option<u64>) -> Option<Entry> {
     Some(Entry::Port(PortRights {
         port: 7,
@@ -173,7 +174,7 @@ fn send(dead_name_target: Option<u64>) -> Option<Entry> {
     }))
 }
 
-/// A name for a send-once right to port 7.
+/// Returns an entry with a send-once right to port 7.
 fn once(dead_name_target: Option<u64>) -> Option<Entry> {
     Some(Entry::SendOnce {
         port: 7,
@@ -181,7 +182,7 @@ fn once(dead_name_target: Option<u64>) -> Option<Entry> {
     })
 }
 
-/// A dead name.
+/// Returns a dead name.
 fn dead(references: u32) -> Option<Entry> {
     Some(Entry::Dead { references })
 }

@@ -1,6 +1,5 @@
-//! A disk in memory and the store on it, as the tests see them. No method has a clause, so that a test's proof carries
-//! nothing of a disk or of a kernel: what is known of them would be written out at each exit of a function that owns
-//! one.
+//! A disk in memory and its store, as the tests use them. The methods have no contracts, so that a test's proof needn't
+//! carry the contracts of a disk or a kernel through each exit of a function that owns one.
 
 use disk::{Disk, MemDisk, Slot, Torn};
 use ipc_model::{PlainReply, Reply};
@@ -9,17 +8,17 @@ use recover::{Opened, open};
 use std::alloc::Global;
 use store_fault::StoreFault;
 
-/// What is seen of an opened store.
+/// The observed state of an opened store.
 #[derive(Clone, Copy)]
 pub(crate) struct Seen {
     pub(crate) epoch: u64,
-    /// How many records its segment holds.
+    /// Number of records in its segment.
     pub(crate) records: u64,
     /// The type bits of four names of space 1, 0 for one that isn't in use.
     pub(crate) bits: [u32; 4],
 }
 
-/// What a crash may leave of the writes since a slot's last sync.
+/// The contents that a crash may leave of the writes since a slot's last sync.
 pub(crate) static TORN: [Torn; 6] = [
     Torn::Old,
     Torn::New,
@@ -32,7 +31,7 @@ pub(crate) static TORN: [Torn; 6] = [
 /// The type bits of a receive right.
 const RECEIVE: u32 = 0x2_0000;
 
-/// What opening a store returns.
+/// The result of opening a store.
 pub(crate) type Opening = Result<Seen, StoreFault>;
 
 /// The bytes of the slots: image 0, image 1, segment 0, segment 1.
@@ -40,25 +39,25 @@ pub(crate) type Slots<'a> = [&'a [u8]; 4];
 
 /// A disk that may hold a store, and crashes as planned.
 pub(crate) trait Store: Disk {
-    /// An empty disk.
+    /// Creates an empty disk.
     fn empty(alloc: Global) -> Self;
 
-    /// A disk whose slots hold these bytes.
+    /// Creates a disk whose slots hold these bytes.
     fn holding(alloc: Global, slots: Slots<'_>) -> Option<Self>;
 
     /// Plans failures of calls, as `MemDisk::plan` does.
     fn plan_faults(&mut self, stop_at: Option<u64>, fail_at: Option<u64>, torn: Torn);
 
-    /// What a crash leaves.
+    /// Returns the disk after a crash.
     fn stop(self) -> Option<Self>;
 
-    /// The bytes of a slot.
+    /// Returns the bytes of a slot.
     fn bytes(&self, slot: Slot) -> &[u8];
 
-    /// What opening the store returns for these names, and the disk.
+    /// Opens the store, and returns the result for these names and the disk.
     fn open(self, alloc: Global, names: &[u32; 4]) -> (Opening, Self);
 
-    /// The disk of the opened store, and the segment in use.
+    /// Opens the store, and returns its disk and the segment in use.
     fn go_on(self, alloc: Global) -> Option<(Self, Segment)>;
 }
 
@@ -84,8 +83,8 @@ fn see<D: Disk>(opened: &Opened<D>, names: &[u32; 4]) -> Seen {
     }
 }
 
-/// What opening the store returns, and the disk. It knows nothing of the disk, since dropping a disk in memory is
-/// expensive to prove.
+/// Opens the store, and returns the result and the disk. It is generic in the disk, because dropping a disk in memory
+/// is expensive to prove.
 fn see_on<D: Disk + Drop>(alloc: Global, disk: D, names: &[u32; 4]) -> (Opening, D) {
     match open(alloc, disk) {
         Ok(opened) => {
@@ -97,7 +96,7 @@ fn see_on<D: Disk + Drop>(alloc: Global, disk: D, names: &[u32; 4]) -> (Opening,
     }
 }
 
-/// The disk of an opened store, and the segment in use.
+/// Returns the disk of an opened store, and the segment in use.
 fn parts_of<D: Disk + Drop>(opened: Opened<D>) -> (D, Segment) {
     let Opened {
         kernel,
@@ -139,7 +138,7 @@ impl Store for MemDisk {
     }
 }
 
-/// Which of these are the type bits of a receive right.
+/// Returns a flag for each that is the type bits of a receive right.
 pub(crate) fn are_receive(bits: [u32; 4]) -> [bool; 4] {
     let [first, second, third, fourth] = bits;
     [
@@ -150,18 +149,18 @@ pub(crate) fn are_receive(bits: [u32; 4]) -> [bool; 4] {
     ]
 }
 
-/// A disk whose slots hold these bytes.
+/// Creates a disk whose slots hold these bytes.
 pub(crate) fn disk_of<S: Store>(alloc: Global, slots: &[Vec<u8>; 4]) -> Option<S> {
     let [image0, image1, segment0, segment1] = slots;
     S::holding(alloc, [image0, image1, segment0, segment1])
 }
 
-/// A disk with these bytes in the image 0 and the segment 0.
+/// Creates a disk with these bytes in image 0 and segment 0.
 pub(crate) fn disk_with<S: Store>(alloc: Global, image0: &[u8], segment0: &[u8]) -> Option<S> {
     S::holding(alloc, [image0, &[], segment0, &[]])
 }
 
-/// Whether each of a disk's slots holds these bytes.
+/// Returns a flag for each of a disk's slots that holds these bytes.
 pub(crate) fn slots_are<S: Store>(disk: &S, wanted: &Slots<'_>) -> [bool; 4] {
     let [image0, image1, segment0, segment1] = *wanted;
     [
@@ -172,7 +171,7 @@ pub(crate) fn slots_are<S: Store>(disk: &S, wanted: &Slots<'_>) -> [bool; 4] {
     ]
 }
 
-/// The same for slots that were made.
+/// Returns the same for slots that were made.
 pub(crate) fn keeps<S: Store>(disk: &S, slots: &[Vec<u8>; 4]) -> [bool; 4] {
     let [image0, image1, segment0, segment1] = slots;
     slots_are(disk, &[image0, image1, segment0, segment1])

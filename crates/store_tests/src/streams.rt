@@ -1,4 +1,4 @@
-//! Segments of many records, and how they are read.
+//! Segments of many records, and reading them.
 ghost use Rattle.std.specs.Prelude.{◌≤◌, length};
 ghost use Rattle.disk.specs.Slots.{slot_of};
 ghost use Rattle.journal.specs.Windows.{IsOver};
@@ -10,14 +10,14 @@ use journal::{LONGEST_STEP, RecordReader};
 use std::alloc::{AllocError, Global};
 use store_fault::StoreFault;
 
-/// What was read of a segment: its records, and where the last one ends.
+/// The records that were read of a segment, and the offset at which the last one ends.
 #[derive(Drop)]
 pub(crate) struct Read {
     pub(crate) records: Vec<Record>,
     pub(crate) end: u64,
 }
 
-/// Reads all records that are left.
+/// Reads all remaining records.
 fn read_all<D: Disk>(
     alloc: Global,
     reader: &mut RecordReader,
@@ -54,13 +54,13 @@ pub(crate) fn records_of<D: Disk>(
     Some(read_from(alloc, disk, room))
 }
 
-/// After a record's number and space: a call that sets the limit of the port 0x100's queue to 5, and the reply that it
-/// was done.
+/// The rest of a record after its number and space: a call that sets the queue limit of the port 0x100 to 5, and the
+/// reply that it was done.
 static LIMIT_SET: [u8; 28] = [
     12, 0, 0, 0, 10, 0, 0, 0, 0, 1, 0, 0, 5, 0, 0, 0, 8, 0, 0, 0, 10, 0, 0, 0, 0, 0, 0, 0,
 ];
 
-/// The batch of the record with this number, which sets that limit.
+/// Returns the batch of the record with this number, which sets that limit.
 fn limit_batch(number: u32) -> [u8; 53] {
     let mut batch = [0; 53];
     batch[..25].copy_from_slice(&SEGMENT[16..41]);
@@ -76,8 +76,8 @@ fn add_limits(segment: &mut Vec<u8>, count: u16) -> Result<(), AllocError> {
     segment.extend_from_slice(&[0])
 }
 
-/// A segment of epoch 0 with `count` batches of one record each, and one more: the allocation of [`SEGMENT`], followed
-/// by calls that set limits. Each batch has 53 bytes.
+/// Returns a segment of epoch 0 with `count` batches of one record each, and one more: the allocation of [`SEGMENT`],
+/// followed by calls that set limits. Each batch has 53 bytes.
 pub(crate) fn long_segment(alloc: Global, count: u16) -> Result<Vec<u8>, AllocError> {
     let mut segment = SEGMENT[..69].to_vec(alloc)?;
     add_limits(&mut segment, count)?;

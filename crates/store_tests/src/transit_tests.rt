@@ -4,7 +4,7 @@ use notify::port_destroyed;
 use std::alloc::Global;
 use transit::would_circle;
 
-/// Makes a port, if one more may be made.
+/// Adds a port, if one more may be made.
 fn add_port(state: &mut IpcState) -> Option<()> {
     if state.is_out_of_ports() || state.has_port(state.next_serial()) {
         return None;
@@ -12,7 +12,7 @@ fn add_port(state: &mut IpcState) -> Option<()> {
     state.add_port().ok()
 }
 
-/// The receive right of a port travels in the queue of another.
+/// Puts the receive right of a port into the queue of another.
 fn carry(alloc: Global, state: &mut IpcState, port: u64, queue: u64) -> Option<()> {
     if !state.has_port(port) {
         return None;
@@ -21,7 +21,8 @@ fn carry(alloc: Global, state: &mut IpcState, port: u64, queue: u64) -> Option<(
     state.queue_message(queue, message).ok()
 }
 
-/// Ports 1 to 3; the receive right of port 1 travels in the queue of port 2, and that of port 2 in the queue of port 3.
+/// Makes ports 1 to 3, with the receive right of port 1 in the queue of port 2, and that of port 2 in the queue of port
+/// 3.
 fn make_two_hops(alloc: Global, state: &mut IpcState) -> Option<()> {
     for _ in 0..3 {
         add_port(state)?;

@@ -1,5 +1,5 @@
-//! Stores of two epochs: which slots are open with which epochs. What opening each of them returns follows from the
-//! rules of docs/FORMATS.md, "Opening".
+//! Stores of two epochs: the open slots and their epochs. The expected results follow from the rules of
+//! docs/FORMATS.md, "Opening".
 use crate::bending::{DAMAGED, Epochs, FIVE, FOUR, FOUR_TO_FIVE, Found, NEW, tried};
 use crate::expect::same_in_row;
 use disk::MemDisk;
@@ -15,7 +15,7 @@ const SIX: Found = Ok((6, 1, [true, false, true, false]));
 // The last epoch but one.
 const LAST_EVEN: u64 = u64::MAX - 1;
 
-// Which images are open, the epochs of the slots, and what opening the store returns.
+// The name of the case, the epochs of the slots, and the result of opening the store.
 type Row = (&'static str, Epochs, Found);
 
 static OPEN: [Row; 64] = [
@@ -26,7 +26,7 @@ static OPEN: [Row; 64] = [
     ("no image is open", [None, None, Some(4), None], DAMAGED),
     ("no image is open", [None, None, None, Some(5)], DAMAGED),
     ("no image is open", [None, None, Some(4), Some(5)], DAMAGED),
-    // Only image 4 is open. Segment 4 has to be open,
+    // Only image 4 is open. Segment 4 must be open.
     ("image 4 is alone", [Some(4), None, None, None], DAMAGED),
     ("image 4 is alone", [Some(4), None, None, Some(3)], DAMAGED),
     ("image 4 is alone", [Some(4), None, None, Some(5)], DAMAGED),
@@ -41,7 +41,7 @@ static OPEN: [Row; 64] = [
         [Some(4), None, Some(6), Some(5)],
         DAMAGED,
     ),
-    // and the other one is closed, of epoch 3, or of epoch 5.
+    // The other segment is closed, of epoch 3, or of epoch 5.
     ("image 4 is alone", [Some(4), None, Some(4), None], FOUR),
     ("image 4 is alone", [Some(4), None, Some(4), Some(3)], FOUR),
     (
@@ -90,7 +90,7 @@ static OPEN: [Row; 64] = [
         [None, Some(5), Some(8), Some(5)],
         DAMAGED,
     ),
-    // Images 4 and 5 are open: 5 counts.
+    // Images 4 and 5 are open, and 5 is used.
     (
         "images 4 and 5 are open",
         [Some(4), Some(5), None, None],
@@ -136,7 +136,7 @@ static OPEN: [Row; 64] = [
         [Some(4), Some(5), Some(8), Some(5)],
         DAMAGED,
     ),
-    // Images 6 and 5 are open: 6 counts.
+    // Images 6 and 5 are open, and 6 is used.
     (
         "images 6 and 5 are open",
         [Some(6), Some(5), None, Some(5)],
@@ -172,7 +172,7 @@ static OPEN: [Row; 64] = [
         [Some(6), Some(5), Some(6), Some(9)],
         DAMAGED,
     ),
-    // How old the older image is isn't asked.
+    // The age of the older image doesn't matter.
     (
         "the older image is older",
         [Some(4), Some(1), Some(4), Some(3)],
@@ -198,7 +198,7 @@ static OPEN: [Row; 64] = [
         [Some(4), Some(7), Some(4), Some(7)],
         DAMAGED,
     ),
-    // An epoch has the other number: that of both images, or one two further on, or a segment's.
+    // An epoch belongs to the other slot: that of both images, one two later, or a segment's.
     (
         "an epoch is of the other number",
         [Some(4), Some(4), Some(4), Some(5)],
@@ -239,7 +239,7 @@ static OPEN: [Row; 64] = [
         [None, None, None, Some(0)],
         DAMAGED,
     ),
-    // The first epoch, and the last one.
+    // The first and the last possible epoch.
     (
         "the first epoch, or the last one",
         [Some(0), None, Some(0), None],

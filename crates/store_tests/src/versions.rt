@@ -1,5 +1,5 @@
-//! Stores whose slots are of either version. Each slot is read by its own; a store whose segment in use is of version 1
-//! goes on in the next epoch, in version 2, and that segment stays as it is (docs/FORMATS.md, "Opening").
+//! Stores whose slots are of either version. Each slot is read in its own version. A store whose segment in use is of
+//! version 1 continues in the next epoch, in version 2, and that segment stays unchanged (docs/FORMATS.md, "Opening").
 use crate::bending::{Found, NEW, reopened, set, whole_slot};
 use crate::expect::same_in_row;
 use crate::making::{NEW_SEGMENT, SEGMENT};
@@ -11,7 +11,7 @@ use disk::{MemDisk, Slot, Torn};
 use std::alloc::Global;
 use store_fault::StoreFault;
 
-// A slot: empty, or of this version and epoch, with a gate that is closed or open.
+// A slot: empty, or of this version and epoch, with a closed or an open gate.
 #[derive(Clone, Copy, Debug)]
 enum Is {
     Empty,
@@ -22,7 +22,7 @@ enum Is {
 // Image 4, which is of either version.
 static IMAGES: [Is; 2] = [Is::Open(1, 4), Is::Open(2, 4)];
 
-// The other image's slot: what stands in it adds nothing.
+// The other image's slot, whose contents don't matter.
 static OTHER_IMAGES: [Is; 5] = [
     Is::Empty,
     Is::Closed(1, 5),
@@ -31,17 +31,17 @@ static OTHER_IMAGES: [Is; 5] = [
     Is::Open(2, 3),
 ];
 
-// Segment 4, the other segment's slot, what opening the store returns, and which of its slots stay as they were: image
-// 0, image 1, segment 0, segment 1. Versions of images don't change that.
+// Segment 4, the other segment's slot, the result of opening the store, and flags for the slots that are unchanged:
+// image 0, image 1, segment 0, segment 1. The versions of images don't matter.
 type Row = (Is, Is, Found, [bool; 4]);
 
-// In epoch 4, in which nothing is written.
+// In epoch 4, where nothing is written.
 const FOUR: Found = Ok((4, 1, [true, false, true, false]));
 
-// From epoch 4 to epoch 5, without a record.
+// From epoch 4 to epoch 5, without records.
 const TO_FIVE: Found = Ok((5, 0, [true, false, true, false]));
 
-// Segment 5 follows: in epoch 5, with its record; or from there to epoch 6, without one.
+// Segment 5 follows: in epoch 5, with its record; or from there to epoch 6, without records.
 const FIVE: Found = Ok((5, 1, [true, false, true, true]));
 
 const TO_SIX: Found = Ok((6, 0, [true, false, true, true]));
@@ -90,7 +90,7 @@ fn slots_as(alloc: Global, images: (Is, Is), segments: (Is, Is)) -> Option<[Vec<
     ])
 }
 
-// What opening a store returns, which of its slots stay as they were, and what opening it again returns.
+// The result of opening a store, flags for its slots that are unchanged, and the result of opening it again.
 type Opened = (Found, [bool; 4], Found);
 
 fn opened_twice<S: Store + Drop>(alloc: Global, before: &[Vec<u8>; 4]) -> Option<Opened> {
@@ -121,7 +121,8 @@ fn each_slot_is_read_by_its_version(rt: HostRuntime) {
     }
 }
 
-// Opens a store with a crash at a device call: what is returned, and what opening what is left returns.
+// Opens a store with a crash at a device call. Returns the result, and the result of opening the store that the crash
+// leaves.
 fn stopped<S: Store + Drop>(
     alloc: Global,
     before: &[Vec<u8>; 4],
@@ -138,8 +139,8 @@ fn stopped<S: Store + Drop>(
 // More device calls than an opening makes.
 const MANY: u64 = 80;
 
-// The first device call of an opening at which a crash leaves something else than this, or by which it hasn't ended; 0
-// if there is none.
+// Returns the first device call of an opening at which a crash leaves another state, or at which the opening hasn't
+// ended; 0 if there is none.
 fn first_unlike<S: Store + Drop>(
     alloc: Global,
     before: &[Vec<u8>; 4],
@@ -176,7 +177,7 @@ fn first_unlike_as<S: Store + Drop>(
     Some(at)
 }
 
-// The first way to crash in which a store leaves something else, and at which device call.
+// Returns the first kind of crash after which a store is different, and its device call.
 fn first_torn<S: Store + Drop>(alloc: Global, images: (Is, Is), row: &Row) -> Option<(Torn, u64)> {
     for torn in &TORN {
         let at = first_unlike_as::<S>(alloc, images, row, *torn).unwrap_or(MANY);
@@ -187,7 +188,7 @@ fn first_torn<S: Store + Drop>(alloc: Global, images: (Is, Is), row: &Row) -> Op
     None
 }
 
-// Each combination of segments, and over them in turn each combination of images.
+// All combinations of segments. Each one uses the next combination of images, in rotation.
 #[test]
 fn crashes_within_the_opening_of_each_version(rt: HostRuntime) {
     for (at, row) in SEGMENTS.iter().enumerate() {
@@ -197,8 +198,8 @@ fn crashes_within_the_opening_of_each_version(rt: HostRuntime) {
     }
 }
 
-// The store of version 1 after the allocation of the name 0x100, or before it; its segment is truncated or extended to
-// a length.
+// Returns the store of version 1 after the allocation of the name 0x100, or before it, with its segment truncated or
+// extended to a length.
 fn old_store(alloc: Global, length: usize, name: bool) -> Option<[Vec<u8>; 4]> {
     let batches: &[u8] = if name { &SEGMENT[16..] } else { &[0] };
     let mut segment = opened_slot(alloc, 1, 0, batches).ok()?;
@@ -207,7 +208,7 @@ fn old_store(alloc: Global, length: usize, name: bool) -> Option<[Vec<u8>; 4]> {
     Some([image, Vec::new(alloc), segment, Vec::new(alloc)])
 }
 
-// How long the slots of a store are once it was opened.
+// Returns the lengths of a store's slots after it was opened.
 fn lengths<S: Store>(disk: &S) -> [usize; 4] {
     [
         disk.bytes(Slot::Image0).len(),
@@ -217,8 +218,8 @@ fn lengths<S: Store>(disk: &S) -> [usize; 4] {
     ]
 }
 
-// How long an upgraded store's slots are, and whether they hold what they held before, and an image and a segment of
-// epoch 1 in version 2.
+// Returns the lengths of an upgraded store's slots, and flags that they hold their former contents, and an image and a
+// segment of epoch 1 in version 2.
 fn upgraded<S: Store + Drop>(
     alloc: Global,
     before: &[Vec<u8>; 4],
@@ -238,7 +239,8 @@ fn upgraded<S: Store + Drop>(
     Some((lengths(&disk), [first, is_image, log, is_segment]))
 }
 
-// What is seen of such a store, and the first crash in its opening that leaves something else, for each way to crash.
+// The properties of such a store, and for each kind of crash the first one during its opening that leaves another
+// state.
 type OldStore = (Option<([usize; 4], [bool; 4])>, [u64; 6]);
 
 fn old_store_seen<S: Store + Drop>(alloc: Global, length: usize, name: bool) -> Option<OldStore> {
@@ -253,8 +255,8 @@ fn old_store_seen<S: Store + Drop>(alloc: Global, length: usize, name: bool) -> 
     Some((seen, unlike))
 }
 
-// How long the segment is, whether it has its batch, and how long image 1 is then: with a last gate; without one; with
-// bytes after it; and without a batch, in both ways.
+// The length of the segment, true if it has its batch, and the length of image 1 then: with a last gate; without one;
+// with bytes after it; and without a batch, with and without a last gate.
 static OLD_STORES: [(usize, bool, usize); 5] = [
     (70, true, 122),
     (69, true, 122),
@@ -273,8 +275,8 @@ fn an_old_segment_stays_as_it_is(rt: HostRuntime) {
 }
 
 // A state and a segment in two slots of one epoch: versions, the epoch, the limit of the image's port, the limit that
-// the segment's record sets or `None` for no batch; of the following segment, if there is one, its version and limit.
-// And the epoch and the number of records that the store is opened with.
+// the segment's record sets or `None` for no batch; the version and limit of the following segment, if there is one;
+// and the epoch and the number of records with which the store is opened.
 type Limits = (
     (u8, u8, u64),
     (u8, Option<u8>),
@@ -286,8 +288,8 @@ const BAD: Result<(u64, u64), StoreFault> = Err(StoreFault::Damaged);
 
 const LAST_EVEN: u64 = u64::MAX - 1;
 
-// The greatest limit is 16 in version 1, and 64 in version 2. A slot of version 1 is asked for what it says itself: the
-// limit of the last row but one comes from an image of version 2.
+// The maximum limit is 16 in version 1, and 64 in version 2. A slot of version 1 is only checked for limits that it
+// contains itself: the limit in the last row but one comes from an image of version 2.
 static LIMITS: [Limits; 13] = [
     ((1, 16, 4), (1, None), None, Ok((5, 0))),
     ((1, 17, 4), (1, None), None, BAD),
@@ -304,7 +306,7 @@ static LIMITS: [Limits; 13] = [
     ((2, 64, 4), (1, Some(17)), None, BAD),
 ];
 
-// A segment of version 1 leaves an epoch to go on in.
+// After a segment of version 1 there must be a next epoch.
 static LAST_EPOCHS: [Limits; 6] = [
     ((1, 5, u64::MAX), (1, None), None, BAD),
     ((2, 5, u64::MAX), (1, None), None, BAD),
@@ -319,7 +321,7 @@ static LAST_EPOCHS: [Limits; 6] = [
     ((1, 5, LAST_EVEN), (1, None), None, Ok((u64::MAX, 0))),
 ];
 
-// The segment that follows, or an empty slot.
+// Returns the segment that follows, or an empty slot.
 fn following(alloc: Global, epoch: u64, row: &Limits) -> Option<Vec<u8>> {
     match row.2 {
         Some((version, limit)) => segment_of_limit(alloc, version, epoch, limit).ok(),
@@ -364,7 +366,7 @@ fn limits_are_those_of_the_version(rt: HostRuntime) {
     }
 }
 
-// What a start that didn't end left in version 1: a closed image, and a segment 0 that is empty, closed, or open
+// The slots after an interrupted creation in version 1: a closed image, and a segment 0 that is empty, closed, or open
 // without a batch.
 static STARTS: [Is; 3] = [Is::Empty, Is::Closed(1, 0), Is::Open(1, 0)];
 
@@ -376,7 +378,8 @@ fn start_of(alloc: Global, segment: Is) -> Option<[Vec<u8>; 4]> {
     Some([image, Vec::new(alloc), log, Vec::new(alloc)])
 }
 
-// What opening it returns, how long its slots are then, and whether image 0 and segment 0 are new ones of version 2.
+// Returns the result of opening it, the lengths of its slots then, and flags that image 0 and segment 0 are new ones of
+// version 2.
 fn started<S: Store + Drop>(alloc: Global, segment: Is) -> Option<(Found, [usize; 4], [bool; 2])> {
     let before = start_of(alloc, segment)?;
     let disk = disk_of::<S>(alloc, &before);

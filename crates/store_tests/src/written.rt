@@ -1,8 +1,8 @@
-//! Slots written byte by byte, in either version: headers and segments as docs/FORMATS.md has them, and the images of
-//! two states. A version is its number here.
+//! Slots written byte by byte, in either version: headers and segments as in docs/FORMATS.md, and the images of two
+//! states. A version is its number here.
 use std::alloc::{AllocError, Global};
 
-/// The version that slots are written in.
+/// The version in which slots are written.
 pub(crate) const CURRENT: u8 = 2;
 
 // The encoding of a state with one receive right, after its space's number and request.
@@ -44,7 +44,7 @@ static LIMIT_BATCH: [u8; 54] = [
     0, // closed gate
 ];
 
-/// A slot whose gate is open, of this version and epoch.
+/// Returns a slot whose gate is open, of this version and epoch.
 pub(crate) fn opened_slot(
     alloc: Global,
     version: u8,
@@ -57,8 +57,8 @@ pub(crate) fn opened_slot(
     Ok(slot)
 }
 
-// An image slot of a state with only space 1: what its encoding has after the next serial, the space's number and, in
-// version 2, that of its last request.
+// Returns an image slot of a state with only space 1, from the part of its encoding after the next serial, the space's
+// number and, in version 2, that of its last request.
 fn image_slot(
     alloc: Global,
     version: u8,
@@ -79,12 +79,13 @@ fn image_slot(
     Ok(slot)
 }
 
-/// An image slot with the opening state.
+/// Returns an image slot with the opening state.
 pub(crate) fn image_of_none(alloc: Global, version: u8, epoch: u64) -> Result<Vec<u8>, AllocError> {
     image_slot(alloc, version, epoch, 1, &[0; 8])
 }
 
-/// An image slot with a state that has one receive right, under this name after 0x100, to a port with this queue limit.
+/// Returns an image slot with a state that has one receive right, under the name 0x100 plus `name`, to a port with this
+/// queue limit.
 pub(crate) fn image_with_limit(
     alloc: Global,
     version: u8,
@@ -98,7 +99,7 @@ pub(crate) fn image_with_limit(
     image_slot(alloc, version, epoch, 2, &names_and_ports)
 }
 
-/// The same with the limit that a port has at first.
+/// Returns the same with the limit of a new port.
 pub(crate) fn image_of_name(
     alloc: Global,
     version: u8,
@@ -108,7 +109,7 @@ pub(crate) fn image_of_name(
     image_with_limit(alloc, version, epoch, name, 5)
 }
 
-/// A segment slot with one record, which allocates this name after 0x100 as a receive right.
+/// Returns a segment slot with one record, which allocates the name 0x100 plus `name` as a receive right.
 pub(crate) fn segment_of_name(
     alloc: Global,
     version: u8,
@@ -121,7 +122,7 @@ pub(crate) fn segment_of_name(
     Ok(segment)
 }
 
-/// A segment slot with one record, which sets the queue limit of the name 0x100, or without a batch.
+/// Returns a segment slot with one record, which sets the queue limit of the name 0x100, or without a batch.
 pub(crate) fn segment_of_limit(
     alloc: Global,
     version: u8,

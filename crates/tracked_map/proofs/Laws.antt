@@ -51,8 +51,7 @@ last_false : (a : Bool) → (a || false) ≡ true → a ≡ true
 last_false true e = refl
 last_false false e = e
 
--- what fits is below what doesn't
--- a key after others
+-- membership in a list with one more key
 in_append : (q k : ℕ) (keys : List ℕ) → is_in q (keys ++ k ∷ []) ≡ (is_in q keys || (eq_by_cmp nat_cmp q k || false))
 in_append q k [] = refl
 in_append q k (n ∷ keys) =
@@ -85,7 +84,7 @@ module _ {X : Type 0} where
   same : (m n : FinMap {K = ℕ} nat_cmp X) → ((q : ℕ) → get m q ≡ get n q) → m ≡ n
   same m n alike = same_map nat_cmp_total nat_cmp-IsAntisymmetric m n alike
 
-  -- a slot that is set shows in the map
+  -- the map after a slot is set
   pub shown_put : (slots : FinMap {K = ℕ} nat_cmp (Option X)) (key : ℕ) (o : Option X)
       → shown (insert slots key o) ≡ put (shown slots) key o
   shown_put slots key o = same _ _ (λ q.
@@ -98,7 +97,7 @@ module _ {X : Type 0} where
   there m key o q true is = ap (get m) (sym (key_is q key is))
   there m key o q false is = refl
 
-  -- what was there put back
+  -- putting the former value back restores the map
   put_again : (m : FinMap {K = ℕ} nat_cmp X) (key : ℕ) (o : Option X) → put (put m key o) key (get m key) ≡ m
   put_again m key o = same _ _ (λ q.
       get_put (put m key o) key (get m key) q ∙ ap (cond (eq_by_cmp nat_cmp q key) (get m key)) (get_put m key o q)
@@ -117,7 +116,7 @@ module _ {X : Type 0} where
       as (λ (b : Bool). (b || is_among q (es ++ fs)) ≡ ((b || is_among q es) || is_among q fs))
       [ true ↦ refl | false ↦ among_append q es fs ]
 
-  -- counts
+  -- Counts.
   len_put : (m : FinMap {K = ℕ} nat_cmp X) (key : ℕ) (o : Option X)
       → len (put m key o) ≡ len_after (len m) (is_some (get m key)) (is_some o)
   len_put m key None = len-remove nat_cmp_total m key
@@ -145,7 +144,7 @@ module _ {X : Type 0} where
     | suc n ↦ λ (_ : _). omega arith
   ] refl
 
-  -- a value is put, or removed, and what was there is noted
+  -- a value is set or removed, and the former one is appended to the list
   pub record IsPut (slots next : FinMap {K = ℕ} nat_cmp (Option X)) (former longer : List (ℕ × Option X)) (key : ℕ)
       (value before : Option X) (n : ℕ) (had has : Bool) : Type 0 where
     pub shows : shown next ≡ put (shown slots) key value
@@ -180,7 +179,7 @@ module _ {X : Type 0} where
         counts = counts;
       }
 
-  -- a key that is noted last
+  -- the key that was appended last
   noted_key : (q key : ℕ) (former : List (ℕ × Option X)) (before : Option X)
       → is_among q (former ++ (key, before) ∷ []) ≡ (is_among q former || (eq_by_cmp nat_cmp q key || false))
   noted_key q key former before = among_append q former ((key, before) ∷ [])
@@ -214,7 +213,7 @@ module _ {X : Type 0} where
     counted_before = sound.counted_before ∙ ap len (sym done.unwound);
   }
 
-  -- the value that a key has set again, and a key without a value removed
+  -- setting a key's own value, or removing a key without a value, changes nothing
   set_again : (m : FinMap {K = ℕ} nat_cmp X) (key : ℕ) (value : X) → get m key ≡ Some value → insert m key value ≡ m
   set_again m key value is =
       same _ _ (λ q. get-insert nat_cmp_total m key value q ∙ at q (eq_by_cmp nat_cmp q key) refl)
@@ -234,7 +233,7 @@ module _ {X : Type 0} where
   nothing_shown =
       same _ _ (λ q. get_shown empty q ∙ ap option_flatten (get-empty nat_cmp q) ∙ sym (get-empty nat_cmp q))
 
-  -- nothing put, nothing noted
+  -- nothing was set, and the list is empty
   pub nothing_sound : (slots : FinMap {K = ℕ} nat_cmp (Option X)) (former : List (ℕ × Option X)) → slots ≡ empty
       → former ≡ [] → IsSound slots former 0 0
   unfolding over
@@ -260,7 +259,7 @@ module _ {X : Type 0} where
       ap (λ (m : FinMap {K = ℕ} nat_cmp X). record { before = m; current = c }) first ∙ ap
       (λ (m : FinMap {K = ℕ} nat_cmp X). record { before = d; current = m }) second
 
-  -- the last of what was replaced is written back
+  -- the last former value is written back
   pub record IsWritten (slots next : FinMap {K = ℕ} nat_cmp (Option X))
       (former rest shorter : List (ℕ × Option X)) : Type 0 where
     pub shows : over (shown next) shorter ≡ over (shown slots) rest
@@ -301,7 +300,7 @@ module _ {X : Type 0} where
             (marked q) (sym (ap (λ m. get m q) at ∙ get-insert nat_cmp_total slots key value q) ∙ none);
       }
 
-  -- a mark that is taken away
+  -- the removal of a slot without a value
   same_without : (slots : FinMap {K = ℕ} nat_cmp (Option X)) (key : ℕ) → get slots key ≡ Some None
       → shown (remove slots key) ≡ shown slots
   same_without slots key is = same _ _ (λ q.
@@ -313,7 +312,7 @@ module _ {X : Type 0} where
       unseen q true same = sym (ap option_flatten (ap (get slots) (key_is q key same) ∙ is))
       unseen q false same = refl
 
-  -- a slot without a value that is left
+  -- a slot without a value that remains
   still_marked : (slots : FinMap {K = ℕ} nat_cmp (Option X)) (key q : ℕ) (b : Bool) → eq_by_cmp nat_cmp q key ≡ b
       → cond b None (get slots q) ≡ Some None → (get slots q ≡ Some None) × (eq_by_cmp nat_cmp q key ≡ false)
   still_marked slots key q true same is = absurd (cc is)
@@ -366,7 +365,7 @@ module _ {X : Type 0} where
         | false ↦ λ (_ : _). refl
       ] refl
 
-  -- nothing noted is left
+  -- the list is empty after all was written back
   pub rest_sound : (slots : FinMap {K = ℕ} nat_cmp (Option X)) (former : List (ℕ × Option X)) (n : ℕ) → former ≡ []
       → AreMarked slots [] → n ≡ len (shown slots) → IsSound slots former n n
   unfolding over
@@ -402,7 +401,7 @@ module _ {X : Type 0} where
       ap (is_among q) is ∙ noted_key q key before value
       ∙ either_true (is_among q before) (eq_by_cmp nat_cmp q key || false) among
 
-  -- what is passed over in search of the next value
+  -- the keys skipped in the search for the next value
   abbrev pub Passed : FinMap {K = ℕ} nat_cmp X → ℕ → ℕ → Type 0
   Passed m from at = (key : ℕ) → from ≤ key → key < at → get m key ≡ None
 
@@ -418,7 +417,7 @@ module _ {X : Type 0} where
         | false ↦ λ (beyond : _). unseen_where slots key (none key (ltb-false key at beyond) below)
       ] refl
 
-  -- a slot without a value is passed over
+  -- a slot without a value is skipped
   pub passed_mark : (slots : FinMap {K = ℕ} nat_cmp (Option X)) (from at : ℕ) (slot : Option X)
       → get slots at ≡ Some slot → ((value : X) → slot ≡ Some value → ⊥) → Passed (shown slots) from at
       → Passed (shown slots) from (at + 1)
@@ -437,7 +436,7 @@ module _ {X : Type 0} where
   pub same_passed : (m n : FinMap {K = ℕ} nat_cmp X) (from at : ℕ) → m ≡ n → Passed m from at → Passed n from at
   same_passed m n from at is passed = subst (λ k. Passed k from at) is passed
 
-  -- a slot without a value is passed over, with all before it
+  -- a slot without a value is skipped, with all keys before it
   pub passed_slot : (slots : FinMap {K = ℕ} nat_cmp (Option X)) (m : FinMap {K = ℕ} nat_cmp X) (from at key : ℕ)
       (slot : Option X) → shown slots ≡ m → Passed m from at → get slots key ≡ Some slot
       → ((q : ℕ) → at ≤ q → q < key → get slots q ≡ None) → ((value : X) → slot ≡ Some value → ⊥)
@@ -447,7 +446,7 @@ module _ {X : Type 0} where
       (passed_mark slots from key slot is none
       (passed_more slots from at key (same_passed _ _ from at (sym seen) passed) below))
 
-  -- a walk over the slots from a key on: those that it has yet to see, and nothing was seen
+  -- a walk over the slots from a key on: the remaining slots; no slot before them had a value
   pub record Goes (m : FinMap {K = ℕ} nat_cmp X) (from : ℕ) (rest : List (ℕ × Option X)) : Type 0 where
     pub slots : FinMap {K = ℕ} nat_cmp (Option X)
     pub seen : shown slots ≡ m
@@ -468,7 +467,7 @@ module _ {X : Type 0} where
         left = left;
       }
 
-  -- a slot without a value is passed over
+  -- a slot without a value is skipped
   pub goes_on : (m : FinMap {K = ℕ} nat_cmp X) (from key : ℕ) (slot : Option X) (all rest : List (ℕ × Option X))
       → all ≡ (key, slot) ∷ rest → ((value : X) → slot ≡ Some value → ⊥) → Goes m from all → Goes m from rest
   goes_on m from key slot all rest is none goes =
@@ -482,7 +481,7 @@ module _ {X : Type 0} where
         left = left.3;
       }
 
-  -- nothing stands before the next slot
+  -- there is no slot before the next one
   pub goes_before : (m : FinMap {K = ℕ} nat_cmp X) (from key : ℕ) (slot : Option X) (all rest : List (ℕ × Option X))
       → all ≡ (key, slot) ∷ rest → Goes m from all → Passed m from key
   goes_before m from key slot all rest is goes =
@@ -490,7 +489,7 @@ module _ {X : Type 0} where
       same_passed _ _ from key goes.seen
       (passed_more goes.slots from goes.at key (same_passed _ _ from goes.at (sym goes.seen) goes.passed) left.1)
 
-  -- the first slot with a value is the least key's
+  -- the first slot with a value has the least key
   pub goes_to : (m : FinMap {K = ℕ} nat_cmp X) (from key : ℕ) (slot : Option X) (value : X)
       (all rest : List (ℕ × Option X)) → all ≡ (key, slot) ∷ rest → slot ≡ Some value → Goes m from all
       → (from ≤ key) × (get m key ≡ Some value) × Passed m from key
@@ -501,7 +500,7 @@ module _ {X : Type 0} where
         goes_before m from key slot all rest is goes,
       )
 
-  -- nor after the last
+  -- there is no slot after the last one
   pub goes_out : (m : FinMap {K = ℕ} nat_cmp X) (from key : ℕ) (all : List (ℕ × Option X)) → all ≡ [] → Goes m from all
       → from ≤ key → get m key ≡ None
   goes_out m from key all none goes le =
@@ -529,7 +528,7 @@ module _ {X : Type 0} where
         has_some {X = Option X} slots key (ap is_some is),
       ))
 
--- a slot whose value, if it had one, was taken out
+-- a slot whose value, if it had one, was taken
 pub taken_out : {X : Type 0} (slots : FinMap {K = ℕ} nat_cmp (Option X)) (key : ℕ) (slot left taken : Option X)
     → get slots key ≡ Some slot → taken ≡ slot → left ≡ None
     → MatchOption taken (insert slots key left ≡ slots) (λ _. insert slots key left ≡ insert slots key None)
@@ -537,20 +536,20 @@ taken_out slots key slot left None there was gone =
     ap (insert slots key) gone ∙ set_again slots key None (there ∙ ap Some (sym was))
 taken_out slots key slot left (Some value) there was gone = ap (insert slots key) gone
 
--- if a slot has no value, none is removed
+-- removing a key without a value changes nothing
 pub none_removed : {X : Type 0} (slots : FinMap {K = ℕ} nat_cmp (Option X)) (key : ℕ)
     → option_flatten (get slots key) ≡ None → remove (shown slots) key ≡ shown slots
 none_removed slots key none = without_none (shown slots) key (get_shown slots key ∙ none)
 
 module _ {X : Type 0} where
-  -- keys that were removed
+  -- no keys were removed yet
   pub none_removed_yet : (slots : FinMap {K = ℕ} nat_cmp (Option X)) (keys : List ℕ) → keys ≡ [] → AreMarked slots []
       → AreRemoved slots keys
   none_removed_yet slots keys none marked =
       subst (AreRemoved slots) (sym none)
       (record { each = λ q among. absurd (cc among); all = λ q is. absurd (cc (marked q is)) })
 
-  -- a value set in a slot that isn't without one
+  -- a value is set in a slot that has one
   pub set_removed : (slots next : FinMap {K = ℕ} nat_cmp (Option X)) (keys : List ℕ) (key : ℕ) (value : X)
       (found : Option (Option X)) → found ≡ get slots key → is_mark found ≡ false → next ≡ insert slots key (Some value)
       → AreRemoved slots keys → AreRemoved next keys
@@ -570,7 +569,7 @@ module _ {X : Type 0} where
       left q true is = absurd (cc is)
       left q false is = removed.all q is
 
-  -- one more key
+  -- one more key is removed
   pub more_removed : (slots next : FinMap {K = ℕ} nat_cmp (Option X)) (keys longer : List ℕ) (key : ℕ)
       → next ≡ insert slots key None → longer ≡ keys ++ key ∷ [] → AreRemoved slots keys → AreRemoved next longer
   more_removed slots next keys longer key at is removed =
@@ -591,7 +590,7 @@ module _ {X : Type 0} where
       left q true none = or_true (is_in q keys) true refl
       left q false none = either_true (is_in q keys) false (removed.all q none)
 
-  -- the slots that are left to go: none of them has a value
+  -- the slots that remain to be removed: none of them has a value
   pub record AreLeft (slots : FinMap {K = ℕ} nat_cmp (Option X)) (keys : List ℕ) : Type 0 where
     pub empty : (key : ℕ) → is_in key keys ≡ true → (value : X) → get slots key ≡ Some (Some value) → ⊥
     pub all : (key : ℕ) → get slots key ≡ Some None → is_in key keys ≡ true

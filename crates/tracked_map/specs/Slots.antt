@@ -1,5 +1,4 @@
--- Slots of values that change independently: each holds the value as of the last commit or rollback, and the current
--- one.
+-- Slots whose values change independently. Each holds its value at the last commit or rollback, and the current one.
 use Rattle.std.proofs.Common.{◌≡◌, ℕ, cond, true, false, Bool, List, [], ◌∷◌, map, Option, None, Some, option_and_then, refl, sym, ◌∙◌, ap}
 use Rattle.std.specs.Cmp.{nat_cmp_total}
 use Rattle.std.specs.Ordering.{nat_cmp, eq_by_cmp}
@@ -19,7 +18,7 @@ module _ {X Y : Type 0} where
   abbrev pick : (Y → Option X) → List (ℕ × Y) → List (ℕ × Option X)
   pick f es = map (λ e. (e.0, f e.1)) es
 
-  -- the map of what a look at each slot gives
+  -- the map of the values that a function gives for the slots
   unfoldable pub picked : (Y → Option X) → FinMap {K = ℕ} nat_cmp Y → FinMap {K = ℕ} nat_cmp X
   picked f slots = over empty (pick f (entries slots))
 
@@ -41,7 +40,7 @@ module _ {X Y : Type 0} where
   unfolding picked
   get_picked f slots q = get_pick f (entries slots) q ∙ ap (option_and_then f) (sym (get-entries slots q))
 
-  -- a slot that is set shows in the map
+  -- the map after a slot is set
   pub picked_put : (f : Y → Option X) (slots : FinMap {K = ℕ} nat_cmp Y) (key : ℕ) (slot : Y)
       → picked f (insert slots key slot) ≡ put (picked f slots) key (f slot)
   picked_put f slots key slot = same _ _ (λ q.
@@ -50,7 +49,7 @@ module _ {X Y : Type 0} where
       ∙ sym (get_put (picked f slots) key (f slot) q
       ∙ ap (cond (eq_by_cmp nat_cmp q key) (f slot)) (get_picked f slots q)))
 
-  -- looks that give the same in each slot make one map
+  -- functions that agree on each slot give the same map
   pub picked_alike : (f g : Y → Option X) (slots : FinMap {K = ℕ} nat_cmp Y)
       → ((key : ℕ) (slot : Y) → get slots key ≡ Some slot → f slot ≡ g slot) → picked f slots ≡ picked g slots
   picked_alike f g slots alike =

@@ -1,5 +1,4 @@
--- Slots of which only the touched ones have changed: only these are looked at when changes are committed or rolled
--- back.
+-- Slots of which only the touched ones may have changed: a commit or rollback looks at these only.
 use Rattle.std.proofs.Common.{◌≡◌, ℕ, Bool, true, false, cond, ◌||◌, List, [], ◌∷◌, ◌++◌, length, Option, None, Some, is_some, option_and_then, refl, sym, ◌∙◌, ap, arith}
 use Rattle.std.specs.Cmp.{nat_cmp_total, eq_by_cmp_equiv}
 use Rattle.std.specs.declared.cmp.Ordering.{Ordering}
@@ -8,7 +7,7 @@ use Rattle.std.specs.Ordering.{nat_cmp, eq_by_cmp, is_eq}
 use Rattle.std.specs.FinMap.{FinMap, empty, get, insert, remove, get-empty, get-insert, get-remove, same_map, nat_cmp-IsAntisymmetric}
 use Rattle.tracked_map.specs.Slots.{picked, get_picked, picked_alike}
 
--- whether a key is one of these
+-- true if the key is in this list
 abbrev pub is_touched : ℕ → List ℕ → Bool
 is_touched key [] = false
 is_touched key (k ∷ ks) = eq_by_cmp nat_cmp key k || is_touched key ks
@@ -40,13 +39,13 @@ some_is : {Y : Type 0} (a b : Y) → Some a ≡ Some b → a ≡ b
 some_is a b e = cc e
 
 module _ {X Y : Type 0} where
-  -- what stood in an untouched slot still stands there, and each such slot is in use
+  -- untouched slots have the same value before and now, and are in use
   abbrev pub AreTouched : (Y → Option X) → (Y → Option X) → FinMap {K = ℕ} nat_cmp Y → List ℕ → Type 0
   AreTouched before current slots touched =
       (key : ℕ) (slot : Y) → get slots key ≡ Some slot → is_touched key touched ≡ false → (before slot ≡ current slot)
       × (is_some (current slot) ≡ true)
 
-  -- a slot made to hold what a look at it gives, or removed if that is nothing
+  -- the slot of a key, changed by `turn` if `look` gives a value for it, and removed otherwise
   abbrev pub turned : (Y → Option X) → (Y → Y) → FinMap {K = ℕ} nat_cmp Y → ℕ → FinMap {K = ℕ} nat_cmp Y
   turned look turn slots key = elim (get slots key) as (λ _. FinMap {K = ℕ} nat_cmp Y) [
     | None ↦ slots
@@ -57,7 +56,7 @@ module _ {X Y : Type 0} where
     pub none_touched : AreTouched before current empty []
     none_touched key slot at off = absurd (cc (sym (get-empty {K = ℕ} {X = Y} nat_cmp key) ∙ at))
 
-    -- one key more is touched
+    -- one more key is touched
     pub one_touched : (slots : FinMap {K = ℕ} nat_cmp Y) (touched : List ℕ) (key : ℕ)
         → AreTouched before current slots touched → AreTouched before current slots (touched ++ key ∷ [])
     one_touched slots touched key are q slot at off =
@@ -77,7 +76,7 @@ module _ {X Y : Type 0} where
         same_key : (k : ℕ) → eq_by_cmp nat_cmp k k ≡ true
         same_key k = (eq_by_cmp_equiv nat_cmp_total).refl k
 
-    -- a slot is changed whose key is touched
+    -- a slot with a touched key is changed
     pub put_touched : (slots : FinMap {K = ℕ} nat_cmp Y) (touched : List ℕ) (key : ℕ) (slot : Y)
         → is_touched key touched ≡ true → AreTouched before current slots touched
         → AreTouched before current (insert slots key slot) touched
@@ -89,18 +88,18 @@ module _ {X Y : Type 0} where
         go true same _ = absurd (cc (sym is ∙ ap (λ (k : ℕ). is_touched k touched) (sym (key_same q key same)) ∙ off))
         go false _ there = are q other there off
 
-    -- the same with the two looks exchanged
+    -- the same with both functions exchanged
     pub exchanged : (slots : FinMap {K = ℕ} nat_cmp Y) (touched : List ℕ) → AreTouched before current slots touched
         → AreTouched current before slots touched
     exchanged slots touched are key slot at off =
         let both = are key slot at off in (sym both.0, ap is_some both.0 ∙ both.1)
 
-    -- nothing is touched: what stood there still stands there
+    -- no slot is touched: all values are the same before and now
     pub all_alike : (slots : FinMap {K = ℕ} nat_cmp Y) → AreTouched before current slots []
         → picked before slots ≡ picked current slots
     all_alike slots are = picked_alike before current slots (λ key slot at. (are key slot at refl).0)
 
-  -- Slots are turned to what one look gives, and the other look then gives the same.
+  -- Slots are turned to the values of one function, so that the other one gives the same.
   module _ (look other : Y → Option X) (turn : Y → Y) (looks : (y : Y) → look (turn y) ≡ look y)
       (follows : (y : Y) → other (turn y) ≡ look y) where
     get_turned : (slots : FinMap {K = ℕ} nat_cmp Y) (key q : ℕ) (o : Option Y) → get slots key ≡ o
@@ -127,7 +126,7 @@ module _ {X Y : Type 0} where
         go true = get-insert nat_cmp_total slots key (turn slot) q
         go false = get-remove nat_cmp_total slots key q
 
-    -- what the look gives stays
+    -- turning a slot keeps the values of `look`
     pub turned_looks : (slots : FinMap {K = ℕ} nat_cmp Y) (key : ℕ)
         → picked look (turned look turn slots key) ≡ picked look slots
     turned_looks slots key = same_map nat_cmp_total nat_cmp-IsAntisymmetric _ _ (λ q.
@@ -154,7 +153,7 @@ module _ {X Y : Type 0} where
             one (get slots key) ∙ ap (λ (k : ℕ). option_and_then look (get slots k)) (sym (key_same q key same))
         go q false _ = refl
 
-    -- a turned slot isn't touched any more
+    -- a turned slot needn't be touched any more
     pub turned_touched : (slots : FinMap {K = ℕ} nat_cmp Y) (rest : List ℕ) (key : ℕ)
         → AreTouched other look slots (rest ++ key ∷ []) → AreTouched other look (turned look turn slots key) rest
     turned_touched slots rest key are q slot at off =

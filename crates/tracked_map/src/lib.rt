@@ -1,4 +1,4 @@
-//! A map from numbers to values whose changes are committed or rolled back. Neither takes memory.
+//! A map from numbers to values whose changes are committed or rolled back, without allocations.
 #![tactic(auto)]
 
 ghost use Rattle.std.specs.Prelude.{◌≡◌, ℕ, ◌≤◌, ◌<◌, ◌||◌, [], true, false, Some, None, IfOk, OnOk, OnErr, MatchOption, is_some, option_copied, ◌^◌};
@@ -10,12 +10,11 @@ use number_map::NumberMap;
 use std::alloc::{AllocError, Global};
 use std::marker::Model;
 
-/// A map from numbers to values that remembers what it was at the last commit or rollback. Contracts see the map as it
-/// was then (`before`) and as it is (`current`).
+/// A map from numbers to values that also remembers its state at the last commit or rollback. Contracts see the map at
+/// that time (`before`) and the current one (`current`).
 ///
 /// A value that is replaced or removed goes to a list of former values. Its slot stays until the commit or rollback, so
-/// that a rollback writes in place. The keys that were removed are the slots without a value, unless one of them was
-/// set again.
+/// that a rollback writes in place. A slot without a value belongs to a removed key.
 #[derive(Drop)]
 pub struct TrackedMap<V> {
     slots: NumberMap<Option<V>>,
@@ -41,7 +40,7 @@ impl<V> Model for TrackedMap<V> {
 }
 
 impl<V> TrackedMap<V> {
-    /// An empty map. It takes no memory.
+    /// Creates an empty map. It allocates nothing.
     pub fn new(alloc: Global) -> Self
         ensures { result ≡ at_rest map.empty }
     {
@@ -55,14 +54,14 @@ impl<V> TrackedMap<V> {
         }
     }
 
-    /// How many keys have a value.
+    /// Returns the number of keys with a value.
     pub fn len(&self) -> usize
         ensures { result ≡ map.len self.now.current }
     {
         self.len
     }
 
-    /// The value of a key.
+    /// Returns the value of a key.
     pub fn get(&self, key: u128) -> Option<&V>
         ensures { option_copied result ≡ map.get self.now.current key }
     {
@@ -72,14 +71,14 @@ impl<V> TrackedMap<V> {
         slot.as_ref()
     }
 
-    /// Whether a key has a value.
+    /// Returns true if a key has a value.
     pub fn contains_key(&self, key: u128) -> bool
         ensures { result ≡ is_some (map.get self.now.current key) }
     {
         self.get(key).is_some()
     }
 
-    /// The least key from this one on that has a value, with its value.
+    /// Returns the least key with a value from this one on, and its value.
     pub fn next_from(&self, from: u128) -> Option<(u128, &V)>
         ensures { MatchOption result ((key : ℕ) → from ≤ key → key < 2 ^ 128 → map.get self.now.current key ≡ None)
             (λ e. (from ≤ e.0) × (map.get self.now.current e.0 ≡ Some e.1.now)
@@ -88,8 +87,8 @@ impl<V> TrackedMap<V> {
         self.next_within(from, u128::MAX)
     }
 
-    /// The least key in a range, both ends included, that has a value, with its value. Removed keys are passed over
-    /// only within that range.
+    /// Returns the least key with a value in a range, both ends included, and its value. It skips removed keys only
+    /// within that range.
     pub fn next_within(&self, from: u128, last: u128) -> Option<(u128, &V)>
         ensures { MatchOption result ((key : ℕ) → from ≤ key → key ≤ last → map.get self.now.current key ≡ None)
             (λ e. (from ≤ e.0) × (e.0 ≤ last) × (map.get self.now.current e.0 ≡ Some e.1.now)
@@ -118,7 +117,7 @@ impl<V: Copy + Drop> TrackedMap<V> {
         Ok(())
     }
 
-    /// Sets the value of a key, and returns the one before. If an allocation fails, nothing changed.
+    /// Sets the value of a key, and returns the former one. If an allocation fails, nothing changed.
     pub fn replace(&mut self, key: u128, value: V) -> Result<Option<V>, AllocError>
         ensures before { IfOk result (λ before. before ≡ map.get self.old.current key) }
         ensures ok { OnOk result (self.new ≡ record self.old { current = map.insert self.old.current key value }) }
@@ -159,7 +158,7 @@ impl<V: Copy + Drop> TrackedMap<V> {
         Ok(Some(before))
     }
 
-    /// Commits the changes. It takes no memory.
+    /// Commits the changes. It allocates nothing.
     pub fn commit(&mut self)
         ensures { self.new ≡ at_rest self.old.current }
     {
@@ -176,7 +175,7 @@ impl<V: Copy + Drop> TrackedMap<V> {
         self.len_before = self.len;
     }
 
-    /// Rolls the changes back. It takes no memory.
+    /// Rolls the changes back. It allocates nothing.
     pub fn roll_back(&mut self)
         ensures { self.new ≡ at_rest self.old.before }
     {
@@ -189,7 +188,7 @@ impl<V: Copy + Drop> TrackedMap<V> {
     }
 }
 
-/// Takes the value out of a slot, if it has one.
+/// Takes the value from a slot, if it has one.
 fn take_value<V>(slots: &mut NumberMap<Option<V>>, key: u128) -> Option<V>
     ensures value { result ≡ option_flatten (map.get slots.old key) }
     ensures slots { MatchOption result (slots.new ≡ slots.old) (λ _. slots.new ≡ map.insert slots.old key None) }
@@ -200,7 +199,7 @@ fn take_value<V>(slots: &mut NumberMap<Option<V>>, key: u128) -> Option<V>
     }
 }
 
-/// Whether a slot was found and has no value.
+/// Returns true if there is a slot and it has no value.
 fn is_mark<V: Copy>(found: Option<Option<V>>) -> bool
     ensures { result ≡ is_mark found }
 {
@@ -210,14 +209,14 @@ fn is_mark<V: Copy>(found: Option<Option<V>>) -> bool
     }
 }
 
-/// Whether one of the two is true.
+/// Returns true if at least one of the two is true.
 fn either(one: bool, other: bool) -> bool
     ensures { result ≡ (one || other) }
 {
     one || other
 }
 
-/// How many values there are once a key has one, whether or not it had one before. There are at most `most`.
+/// Returns the number of values after one key was set, given whether it had a value before. There are at most `most`.
 fn len_with(len: usize, had: bool, most: usize) -> usize
     requires { len_after len had true ≤ most }
     ensures { result ≡ len_after len had true }
@@ -225,7 +224,7 @@ fn len_with(len: usize, had: bool, most: usize) -> usize
     if had { len } else { len + 1 }
 }
 
-/// Writes what was replaced back into its slots, the last first.
+/// Writes former values back to their slots, the last one first.
 fn put_back<V: Copy + Drop>(slots: &mut NumberMap<Option<V>>, former: &[(u128, Option<V>)])
     requires kept { HasSlots slots.old former.now }
     requires marked { AreMarked slots.old former.now }
@@ -239,7 +238,7 @@ fn put_back<V: Copy + Drop>(slots: &mut NumberMap<Option<V>>, former: &[(u128, O
     }
 }
 
-/// Sets the value of a slot that exists.
+/// Sets the value of an existing slot.
 fn write<V: Drop>(slots: &mut NumberMap<Option<V>>, key: u128, value: Option<V>)
     requires { is_some (map.get slots.old key) ≡ true }
     ensures { slots.new ≡ map.insert slots.old key value }
@@ -249,7 +248,7 @@ fn write<V: Drop>(slots: &mut NumberMap<Option<V>>, key: u128, value: Option<V>)
     }
 }
 
-/// Removes the slots without a value: those of the keys that were removed, unless one of them was set again.
+/// Removes the slots without a value. They belong to keys that were removed and not set again.
 fn forget<V: Drop>(
     slots: &mut NumberMap<Option<V>>,
     former: &[(u128, Option<V>)],
@@ -270,8 +269,8 @@ fn forget<V: Drop>(
     forget_removed(slots, removed);
 }
 
-/// Removes the slots without a value, which are among those of these keys; `len` slots have one. If there are no more
-/// slots than these, none is looked at.
+/// Removes the slots without a value, which are among those of these keys. `len` slots have a value. If there are no
+/// more slots than that, it looks at none.
 fn forget_marks<V: Drop>(slots: &mut NumberMap<Option<V>>, former: &[(u128, Option<V>)], len: usize)
     requires marked { AreMarked slots.old former.now }
     requires counted { len ≡ map.len (shown slots.old) }
@@ -288,7 +287,7 @@ fn forget_marks<V: Drop>(slots: &mut NumberMap<Option<V>>, former: &[(u128, Opti
     }
 }
 
-/// Removes the slots of these keys, which are those without a value.
+/// Removes the slots of these keys, which are the slots without a value.
 fn forget_removed<V: Drop>(slots: &mut NumberMap<Option<V>>, removed: &[u128])
     requires { AreRemoved slots.old removed.now }
     ensures shown { shown slots.new ≡ shown slots.old }

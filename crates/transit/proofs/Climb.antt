@@ -1,4 +1,4 @@
--- One hop of the way up from a port to the port that carries its receive right.
+-- One hop on the way up, from a port to the one whose queue carries its receive right.
 use Rattle.std.proofs.Common.{◌≡◌, ℕ, suc, Bool, true, false, ◌==◌, ◌||◌, Option, None, Some, refl, sym, ◌∙◌, ap, subst}
 use Rattle.ipc_model.specs.state.Circular.{carrier_of, meets}
 use Rattle.ipc_laws.specs.Ranks.{meets_itself}

@@ -1,4 +1,4 @@
-//! Receive rights that travel in messages: cycles of ports that carry one another.
+//! Receive rights in messages, and cycles of ports that carry one another.
 #![tactic(auto)]
 
 ghost use Rattle.std.specs.Prelude.{◌≡◌};
@@ -7,8 +7,8 @@ ghost use Rattle.ipc_model.specs.state.Circular.{is_circular, meets};
 
 pub use ipc_state::{IpcState, PortNumbers};
 
-/// Whether the receive right of a port, put into this queue, would travel to the port's own queue, directly or
-/// through other ports. It takes no memory.
+/// Returns true if a port's receive right, put into this queue, would travel to the port's own queue, directly or
+/// through other ports. It allocates nothing.
 #[tactic(auto, unfolding(ipc_model::specs::state::Circular::is_circular))]
 pub fn would_circle(state: &IpcState, port: u64, queue: u64) -> bool
     ensures { result ≡ is_circular state.now.current port queue }
@@ -16,7 +16,8 @@ pub fn would_circle(state: &IpcState, port: u64, queue: u64) -> bool
     climbs_to(state, port, queue)
 }
 
-/// Whether going up from a queue to the port that carries its receive right, and so on, meets the port.
+/// Returns true if the port is on the way up from a queue, from each port to the one whose queue carries its receive
+/// right.
 fn climbs_to(state: &IpcState, port: u64, queue: u64) -> bool
     ensures { result ≡ meets state.now.current (map.len state.now.current.ports) port queue }
 {

@@ -1,4 +1,4 @@
--- A body is filled item by item.
+-- A body is filled one item at a time.
 use Rattle.std.specs.Prelude.{◌≡◌, ℕ, Bool, true, false, ◌==◌, List, [], ◌∷◌, ◌++◌, length, drop, take, flat_map, None, Some, Result, Ok, Err, if◌then◌else◌, refl}
 use Rattle.std.proofs.Common.{sym, ◌∙◌, ap, append_assoc, append-nil}
 use Rattle.std.proofs.lemmas.Bool.{eqb-true}
@@ -9,7 +9,7 @@ use Rattle.type_desc.specs.Reading.{front_item, following_item, one_item, no_ite
 use Rattle.type_desc.specs.Values.{filled_item, names_after}
 use Rattle.words.specs.Words.{word}
 
--- The first of the filled items, and then the others.
+-- Items are filled one by one. Each takes its names from the front of the remaining ones.
 abbrev pub FilledOneByOne : Type 0
 FilledOneByOne =
     (item : Item) (items : List Item) (names : List ℕ)
@@ -23,7 +23,7 @@ filled_front item items names =
     ≡ (if b then record item { content = flat_map word (take item.number names) } else item) ∷ filled items
     (if b then drop item.number names else names)) [ true ↦ refl | false ↦ refl ]
 
--- bytes followed by the bytes of filled items, if there are items
+-- bytes followed by the encoding of the filled items, if the items are known
 abbrev pub with_filled : List ℕ → Result (List Item) KernReturn → List ℕ → Result (List ℕ) KernReturn
 with_filled encoding items names = and_then items (λ items. Ok (encoding ++ items_encoding (filled items names)))
 
@@ -36,7 +36,7 @@ filled_more encoding item (Ok items) names =
     (items_encoding (filled items (names_after item names)))))
 filled_more encoding item (Err code) names = refl
 
--- What is left is one item and what follows it.
+-- One step: the first remaining item is filled and appended.
 pub one_filled : (all : Result (List ℕ) KernReturn) (bytes rest encoding added : List ℕ) (names left : List ℕ)
     (item : Item) → all ≡ with_filled encoding (items_of bytes) names → (length bytes == 0) ≡ false
     → first_failing (tests_of_item bytes) ≡ None
@@ -58,14 +58,14 @@ same_bytes : (one other : List ℕ) → ◌≡◌ {A = Result (List ℕ) KernRet
 unfolding bytes_in
 same_bytes one other e = ap bytes_in e
 
--- what was added, once all of it is known
+-- the appended bytes, if the items tile the body
 added_is : (items : Result (List Item) KernReturn) (body encoding names added : List ℕ)
     → with_filled encoding items names ≡ Ok added → added ≡ encoding ++ body_filled items body names
 added_is (Ok items) body encoding names added is =
     sym (same_bytes (encoding ++ items_encoding (filled items names)) added is)
 added_is (Err code) body encoding names added is = absurd (cc is)
 
--- Nothing is left.
+-- Last step: no bytes remain.
 pub all_filled : (body bytes encoding added : List ℕ) (names left : List ℕ)
     → with_filled encoding (items_of body) names ≡ with_filled added (items_of bytes) left → (length bytes == 0) ≡ true
     → added ≡ encoding ++ body_filled (items_of body) body names
@@ -79,7 +79,7 @@ faulty_is : (items : Result (List Item) KernReturn) (body encoding names : List 
 faulty_is (Ok items) body encoding names code is = absurd (cc is)
 faulty_is (Err other) body encoding names code is = refl
 
--- What is left doesn't begin with an item.
+-- Fault: the remaining bytes don't begin with an item.
 pub one_unfilled : (body bytes encoding added : List ℕ) (names left : List ℕ) (code : KernReturn)
     → with_filled encoding (items_of body) names ≡ with_filled added (items_of bytes) left → (length bytes == 0) ≡ false
     → first_failing (tests_of_item bytes) ≡ Some code

@@ -9,13 +9,13 @@ pub length-words_of : (n : ℕ) (bytes : List ℕ) → length (words_of n bytes)
 length-words_of zero bytes = refl
 length-words_of (suc n) bytes = ap suc (length-words_of n (drop 4 bytes))
 
--- an item's ports
+-- the number of ports of an item
 pub names_count : (item : Item) → length (names_of_item item) ≡ (if is_port_item item then item.number else 0)
 names_count item =
     elim (is_port_item item) as (λ (b : Bool). length (if b then words_of item.number item.content else [])
     ≡ (if b then item.number else 0)) [ true ↦ length-words_of item.number item.content | false ↦ refl ]
 
--- a name among others
+-- the name at index i
 pub word_at : (n i : ℕ) (bytes : List ℕ) → i < n
     → slice_index (words_of n bytes) i ≡ little_number 4 (drop (4 * i) bytes)
 word_at zero i bytes less = absurd (omega (arith, less))
@@ -36,7 +36,7 @@ name_at item i less =
       | false ↦ λ (l : _). absurd (omega (arith, l))
     ] less
 
--- the data of ports has four bytes for each
+-- the data of ports has four bytes for each port
 pub ports_long : (type_name bits number : ℕ) (is_long : Bool) (content : List ℕ)
     → IsWhole type_name bits number is_long content → is_port_type type_name ≡ true → length content ≡ 4 * number
 ports_long type_name bits number is_long content whole port =
@@ -44,7 +44,7 @@ ports_long type_name bits number is_long content whole port =
     whole.long ∙ ap (λ (n : ℕ). padded (number * n)) (whole.ports port) in
     omega (arith, long)
 
--- a port's name stands within the data
+-- the name at index i is within the data
 pub port_within : (type_name bits number : ℕ) (is_long : Bool) (content : List ℕ) (i : ℕ)
     → IsWhole type_name bits number is_long content
     → i < length (if is_port_type type_name then words_of number content else []) → 4 * i + 4 ≤ length content

@@ -1,4 +1,4 @@
--- A body is read item by item.
+-- A body is read one item at a time.
 use Rattle.std.specs.Prelude.{◌≡◌, ℕ, zero, suc, ◌+◌, ◌<◌, ◌≤◌, Bool, true, false, ◌==◌, List, [], ◌∷◌, ◌++◌, length, None, Some, Result, Ok, Err, if◌then◌else◌, refl}
 use Rattle.std.proofs.Common.{sym, ◌∙◌, ap, arith, append_assoc, append-nil, length-drop}
 use Rattle.std.proofs.lemmas.Bool.{eqb-true}
@@ -7,18 +7,18 @@ use Rattle.codes.specs.declared.kern_return.KernReturn.{KernReturn}
 use Rattle.ipc_model.specs.messages.Items.{Item, items_of, items_within, item_of, after_item, is_long_form, tests_of_item, descriptor_length, data_length}
 use Rattle.ipc_model.specs.calls.Tests.{Tests, first_failing, and_then, unless_failing}
 
--- the form of the descriptor at the front
+-- true if the descriptor at the front is long
 abbrev pub form_of : List ℕ → Bool
 form_of bytes = is_long_form (little_number 4 bytes)
 
--- the item at the front, and what follows it
+-- the item at the front, and the bytes after it
 abbrev pub front_item : List ℕ → Item
 front_item bytes = item_of bytes (form_of bytes)
 
 abbrev pub following_item : List ℕ → List ℕ
 following_item bytes = after_item bytes (form_of bytes)
 
--- items that were read, with those that are read of the rest
+-- the items read so far, followed by those of the rest
 abbrev pub with_front : List Item → Result (List Item) KernReturn → Result (List Item) KernReturn
 with_front front rest = and_then rest (λ items. Ok (front ++ items))
 
@@ -26,7 +26,7 @@ at_least_four : (b : Bool) → 4 ≤ descriptor_length b
 at_least_four true = omega arith
 at_least_four false = omega arith
 
--- more steps than bytes find no more items
+-- a bound above the number of bytes finds the same items
 same_within : (m n : ℕ) (bytes : List ℕ) → length bytes ≤ m → length bytes ≤ n
     → items_within m bytes ≡ items_within n bytes
 same_within zero zero bytes few less = refl
@@ -69,7 +69,7 @@ stops {X} (test ∷ tests) r code fails =
       | false ↦ λ (e : _). stops tests r code e
     ] fails
 
--- If the item at the front passes its tests, the items are this one and those after it.
+-- If the item at the front passes its tests, the items are that item and those of the bytes after it.
 pub one_item : (bytes : List ℕ) → 0 < length bytes → first_failing (tests_of_item bytes) ≡ None
     → items_of bytes ≡ and_then (items_of (following_item bytes)) (λ items. Ok (front_item bytes ∷ items))
 unfolding items_of
@@ -89,7 +89,7 @@ one_item (b ∷ bytes) some passes =
     ∙ ap (λ (r : Result (List Item) KernReturn). and_then r (λ items. Ok (front_item encoding ∷ items)))
     (same_within (length bytes) (length beyond) beyond (omega (arith, shorter)) (omega arith))
 
--- If it fails one, there are none.
+-- If the item at the front fails a test, the result is that test's code.
 pub no_item : (bytes : List ℕ) (code : KernReturn) → 0 < length bytes → first_failing (tests_of_item bytes) ≡ Some code
     → items_of bytes ≡ Err code
 unfolding items_of
@@ -104,7 +104,7 @@ pub items_of_none : items_of [] ≡ Ok []
 unfolding items_of
 items_of_none = refl
 
--- one more item was read
+-- an item moves from the rest to the items read so far
 pub front_more : (front : List Item) (item : Item) (rest : Result (List Item) KernReturn)
     → with_front front (and_then rest (λ items. Ok (item ∷ items))) ≡ with_front (front ++ item ∷ []) rest
 front_more front item (Ok items) = ap Ok (sym (append_assoc front (item ∷ []) items))
@@ -118,7 +118,7 @@ pub some_left : (bytes : List ℕ) → (length bytes == 0) ≡ false → 0 < len
 some_left [] is = absurd (cc is)
 some_left (b ∷ bytes) is = omega arith
 
--- What is left is one item and what follows it.
+-- One step: the first remaining item is read.
 pub one_more : (body bytes rest : List ℕ) (front : List Item) (item : Item)
     → items_of body ≡ with_front front (items_of bytes) → (length bytes == 0) ≡ false
     → first_failing (tests_of_item bytes) ≡ None
@@ -129,14 +129,14 @@ one_more body bytes rest front item before left passes is beyond =
     ∙ front_more front (front_item bytes) (items_of (following_item bytes)) ∙
     (λ i. with_front (front ++ sym is i ∷ []) (items_of (sym beyond i)))
 
--- Nothing is left.
+-- Last step: no bytes remain.
 pub all_read : (body bytes : List ℕ) (front : List Item) → items_of body ≡ with_front front (items_of bytes)
     → (length bytes == 0) ≡ true → items_of body ≡ Ok front
 all_read body bytes front before left =
     before ∙ ap (λ (l : List ℕ). with_front front (items_of l)) (none_is bytes (eqb-true (length bytes) 0 left))
     ∙ ap (with_front front) items_of_none ∙ ap Ok (append-nil front)
 
--- What is left doesn't begin with an item.
+-- Fault: the remaining bytes don't begin with an item.
 pub one_fault : (body bytes : List ℕ) (front : List Item) (code : KernReturn)
     → items_of body ≡ with_front front (items_of bytes) → (length bytes == 0) ≡ false
     → first_failing (tests_of_item bytes) ≡ Some code → items_of body ≡ Err code

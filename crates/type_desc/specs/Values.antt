@@ -1,4 +1,4 @@
--- Items as declared, in the words of messages.
+-- The values of declared items as items of the model.
 use Rattle.std.specs.Prelude.{◌≡◌, ℕ, List, Result, Err, take, drop, flat_map, if◌then◌else◌}
 use Rattle.codes.specs.declared.kern_return.KernReturn.{KernReturn}
 use Rattle.ipc_model.specs.messages.Items.{Item, is_port_item}
@@ -7,7 +7,7 @@ use Rattle.type_desc.specs.declared.fault.ItemFault.TheVariants.{Code, NoMemory}
 use Rattle.type_desc.specs.declared.item.Item as declared
 use Rattle.words.specs.Words.{word}
 
--- an item with its data
+-- the value of an item: its fields and the bytes of its data
 abbrev pub item_value : declared.Item → Item
 item_value item = record {
   type_name = item.type_name;
@@ -17,12 +17,12 @@ item_value item = record {
   content = item.content.now;
 }
 
--- a fault has the code of a body's leftmost fault, or says that memory ran out
+-- the code of a fault is that of the body's leftmost fault; out of memory says nothing of the body
 abbrev pub FaultOf : Result (List Item) KernReturn → ItemFault → Type 0
 FaultOf items (Code code) = items ≡ Err code
 FaultOf items NoMemory = Unit {0}
 
--- An item with the first names in the places of its ports, and the names that are left.
+-- An item with the first names in place of its ports, and the names that remain after it.
 abbrev pub filled_item : Item → List ℕ → Item
 filled_item item names =
     if is_port_item item then record item { content = flat_map word (take item.number names) } else item

@@ -11,7 +11,7 @@ use byteorder::{ByteOrder, LittleEndian};
 use std::alloc::AllocError;
 use words::push_word;
 
-/// Adds the two bytes of a number. If an allocation fails, nothing changed.
+/// Appends a number in two bytes. If an allocation fails, nothing changed.
 fn push_half(out: &mut Vec<u8>, value: u16) -> Result<(), AllocError>
     ensures ok { OnOk result (out.new.items ≡ out.old.items ++ little_bytes 2 value) }
     ensures err { OnErr result (out.new.items ≡ out.old.items) }
@@ -21,7 +21,7 @@ fn push_half(out: &mut Vec<u8>, value: u16) -> Result<(), AllocError>
     out.extend_from_slice(&encoding)
 }
 
-/// Adds numbers, four bytes each. If an allocation fails, some of them may have been added.
+/// Appends words. If an allocation fails, some of them may have been appended.
 #[tactic(auto, using(crate::specs::Adding::keeps_added))]
 pub(crate) fn add_words(out: &mut Vec<u8>, numbers: &[u32]) -> Result<(), AllocError>
     ensures ok { OnOk result (out.new.items ≡ out.old.items ++ flat_map word numbers.now) }
@@ -35,7 +35,7 @@ pub(crate) fn add_words(out: &mut Vec<u8>, numbers: &[u32]) -> Result<(), AllocE
     Ok(())
 }
 
-/// The first `count` numbers, or all if there are fewer.
+/// Returns the first `count` numbers, or all if there are fewer.
 pub(crate) fn front_of(numbers: &[u32], count: u32) -> &[u32]
     ensures { result.now ≡ take count numbers.now }
 {
@@ -47,7 +47,7 @@ pub(crate) fn front_of(numbers: &[u32], count: u32) -> &[u32]
     }
 }
 
-/// The numbers after the first `count`.
+/// Returns the numbers after the first `count`.
 pub(crate) fn after_front(numbers: &[u32], count: u32) -> &[u32]
     ensures { result.now ≡ drop count numbers.now }
 {
@@ -59,7 +59,8 @@ pub(crate) fn after_front(numbers: &[u32], count: u32) -> &[u32]
     }
 }
 
-/// The type of ports as received (`MACH_MSG_TYPE_PORT_RECEIVE`, `_SEND` and `_SEND_ONCE`); other types stay.
+/// Returns the type with which a port is received (`MACH_MSG_TYPE_PORT_RECEIVE`, `_SEND` or `_SEND_ONCE`). Types other
+/// than those of ports are returned unchanged.
 pub(crate) fn received_type(type_name: u16) -> u16
     ensures { result ≡ received_type type_name }
 {
@@ -70,7 +71,7 @@ pub(crate) fn received_type(type_name: u16) -> u16
     }
 }
 
-/// Adds zeros. If an allocation fails, nothing changed.
+/// Appends zeros. If an allocation fails, nothing changed.
 pub(crate) fn push_zeros(out: &mut Vec<u8>, count: usize) -> Result<(), AllocError>
     requires { count < 2 ^ 48 }
     ensures ok { OnOk result (out.new.items ≡ out.old.items ++ replicate count 0) }
@@ -80,7 +81,7 @@ pub(crate) fn push_zeros(out: &mut Vec<u8>, count: usize) -> Result<(), AllocErr
     out.resize(length, 0)
 }
 
-/// The word of a short descriptor.
+/// Returns the word of a short descriptor.
 fn short_word(type_name: u16, bits: u16, number: u32) -> u32
     requires type_name { type_name < 2 ^ 8 }
     requires bits { bits < 2 ^ 8 }
@@ -90,7 +91,7 @@ fn short_word(type_name: u16, bits: u16, number: u32) -> u32
     u32::from(type_name) + u32::from(bits) * 0x100 + number * 0x1_0000 + INLINE_BIT
 }
 
-/// Adds a long descriptor. If an allocation fails, a part of it may have been added.
+/// Appends a long descriptor. If an allocation fails, part of it may have been appended.
 #[tactic(auto, using(crate::specs::Adding::keeps_added))]
 fn add_long_descriptor(
     out: &mut Vec<u8>,
@@ -110,7 +111,7 @@ fn add_long_descriptor(
 }
 
 impl Item<'_> {
-    /// Adds its descriptor with another type. If an allocation fails, a part of it may have been added.
+    /// Appends the item's descriptor with another type. If an allocation fails, part of it may have been appended.
     #[tactic(auto, using(crate::specs::Adding::keeps_added))]
     pub(crate) fn add_descriptor(&self, type_name: u16, out: &mut Vec<u8>) -> Result<(), AllocError>
         requires { FitsShort self.now.is_long type_name }

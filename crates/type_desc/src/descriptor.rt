@@ -3,13 +3,13 @@ ghost use Rattle.ipc_model.specs.messages.Items.{is_inline, is_long_form, has_ot
 
 use byteorder::{ByteOrder, LittleEndian};
 
-/// How many bytes a short descriptor has (`mach_msg_type_t`).
+/// Length of a short descriptor in bytes (`mach_msg_type_t`).
 pub(crate) const SHORT_LENGTH: usize = 4;
 
-/// How many bytes a long one has (`mach_msg_type_long_t`).
+/// Length of a long descriptor in bytes (`mach_msg_type_long_t`).
 pub(crate) const LONG_LENGTH: usize = 12;
 
-/// `msgt_inline`: the data stands after the descriptor.
+/// `msgt_inline`: the data follows the descriptor.
 pub(crate) const INLINE_BIT: u32 = 0x1000_0000;
 
 /// `msgt_longform`.
@@ -21,10 +21,10 @@ const DEALLOCATE_BIT: u32 = 0x4000_0000;
 /// `msgt_unused`.
 const UNUSED_BIT: u32 = 0x8000_0000;
 
-/// How many bits the name of a port has.
+/// Size of a port's name in bits.
 const PORT_BITS: u16 = 32;
 
-/// The type, the number of bits of an element and the number of elements that a descriptor gives.
+/// The type, the size of an element in bits and the number of elements in a descriptor.
 #[derive(Clone, Copy)]
 pub(crate) struct Fields {
     pub(crate) type_name: u16,
@@ -44,7 +44,7 @@ pub(crate) fn is_long_form(word: u32) -> bool
     word / LONG_FORM_BIT % 2 == 1
 }
 
-/// Whether the deallocate bit or the unused bit is set.
+/// Returns true if the deallocate bit or the unused bit is set.
 fn has_other_bit(word: u32) -> bool
     ensures { result ≡ has_other_bit word }
 {
@@ -57,21 +57,21 @@ pub(crate) fn is_port_type(type_name: u16) -> bool
     16 <= type_name && type_name <= 21
 }
 
-/// Whether the word of a long descriptor has a field that belongs after it.
+/// Returns true if the first word of a long descriptor has a field set that belongs in the words after it.
 fn has_short_fields(word: u32, is_long: bool) -> bool
     ensures { result ≡ has_short_fields word is_long }
 {
     is_long && word % INLINE_BIT != 0
 }
 
-/// Whether these are ports of another size than a name's.
+/// Returns true if the elements are ports but aren't as long as a name.
 fn has_odd_ports(fields: Fields) -> bool
     ensures { result ≡ has_odd_ports fields.type_name fields.bits }
 {
     is_port_type(fields.type_name) && fields.bits != PORT_BITS
 }
 
-/// Whether a descriptor's bits or its type are refused.
+/// Returns true if a descriptor's bits or its type are refused.
 pub(crate) fn has_wrong_type(word: u32, is_long: bool, fields: Fields) -> bool
     ensures { result ≡ (has_other_bit word || has_short_fields word is_long ||
         has_odd_ports fields.type_name fields.bits) }
@@ -79,14 +79,14 @@ pub(crate) fn has_wrong_type(word: u32, is_long: bool, fields: Fields) -> bool
     has_other_bit(word) || has_short_fields(word, is_long) || has_odd_ports(fields)
 }
 
-/// Whether a long descriptor has too few bytes.
+/// Returns true if the descriptor is long and there are too few bytes for it.
 pub(crate) fn is_cut(is_long: bool, length: usize) -> bool
     ensures { result ≡ (is_long && nat_lt length 12) }
 {
     is_long && length < LONG_LENGTH
 }
 
-/// The fields within a short descriptor's word.
+/// Returns the fields within a short descriptor's word.
 fn short_fields(body: &[u8]) -> Fields
     requires { 4 ≤ length body.now }
     ensures type_name { result.type_name ≡ type_name_in body.now false }
@@ -101,7 +101,7 @@ fn short_fields(body: &[u8]) -> Fields
     }
 }
 
-/// The fields after a long descriptor's word.
+/// Returns the fields after a long descriptor's word.
 fn long_fields(body: &[u8]) -> Fields
     requires { 12 ≤ length body.now }
     ensures type_name { result.type_name ≡ type_name_in body.now true }
@@ -115,7 +115,7 @@ fn long_fields(body: &[u8]) -> Fields
     }
 }
 
-/// The fields of a descriptor that has all its bytes.
+/// Returns the fields of a descriptor whose bytes are all there.
 pub(crate) fn fields_of(body: &[u8], is_long: bool) -> Fields
     requires whole { 4 ≤ length body.now }
     requires uncut { (is_long && nat_lt (length body.now) 12) ≡ false }
@@ -130,7 +130,7 @@ pub(crate) fn fields_of(body: &[u8], is_long: bool) -> Fields
     }
 }
 
-/// How many bytes a descriptor has.
+/// Returns the length of a descriptor in bytes.
 pub(crate) fn descriptor_length(is_long: bool) -> usize
     ensures value { result ≡ descriptor_length is_long }
     ensures few { result ≤ 12 }
@@ -138,7 +138,7 @@ pub(crate) fn descriptor_length(is_long: bool) -> usize
     if is_long { LONG_LENGTH } else { SHORT_LENGTH }
 }
 
-/// How many bytes the data has, with its padding.
+/// Returns the length of an item's data in bytes, including its padding.
 pub(crate) fn data_length(fields: Fields) -> usize
     ensures value { result ≡ padded (fields.number * fields.bits) }
     ensures few { result < 2 ^ 48 }

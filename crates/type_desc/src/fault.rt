@@ -1,12 +1,12 @@
 use codes::KernReturn;
 use std::alloc::{AllocError, AllocFailed};
 
-/// Why the items of a body can't be listed.
+/// The reason why the items of a body can't be listed.
 #[derive(Clone, Copy, Debug, PartialEq, Eq)]
 pub enum ItemFault {
     /// The code of the leftmost fault in the body.
     Code(KernReturn),
-    /// Memory ran out.
+    /// Out of memory.
     NoMemory,
 }
 

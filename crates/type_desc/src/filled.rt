@@ -9,7 +9,7 @@ use crate::item::Item;
 use std::alloc::AllocError;
 
 impl Item<'_> {
-    /// The names that are left for the items after this one: those after its own ports'.
+    /// Returns the names for the items after this one: those that remain after this item's own ports.
     pub fn following_names<'n>(&self, names: &'n [u32]) -> &'n [u32]
         ensures { result.now ≡ names_after (item_value self.now) names.now }
     {
@@ -20,7 +20,7 @@ impl Item<'_> {
         }
     }
 
-    /// Adds a port item with names in the places of its ports.
+    /// Appends a port item with these names in place of its ports.
     #[tactic(auto, using(crate::specs::Adding::keeps_more))]
     fn add_filled_ports(&self, names: &[u32], out: &mut Vec<u8>) -> Result<(), AllocError>
         requires { is_port_item (item_value self.now) ≡ true }
@@ -33,7 +33,7 @@ impl Item<'_> {
         Ok(())
     }
 
-    /// Adds the item with names in the places of its ports.
+    /// Appends the item with these names in place of its ports.
     fn add_filled(&self, names: &[u32], out: &mut Vec<u8>) -> Result<(), AllocError>
         ensures ok { OnOk result (out.new.items ≡ out.old.items
             ++ item_encoding (filled_item (item_value self.now) names.now)) }
@@ -47,7 +47,8 @@ impl Item<'_> {
         Ok(())
     }
 
-    /// Adds the item's bytes with the first of these names in the places of its ports; as it is if it holds none.
+    /// Appends the item's bytes with the first of these names in place of its ports. An item without ports is appended
+    /// unchanged.
     ///
     /// If an allocation fails, nothing changed.
     pub fn push_filled(&self, names: &[u32], out: &mut Vec<u8>) -> Result<(), AllocError>
@@ -66,7 +67,8 @@ impl Item<'_> {
     }
 }
 
-/// Adds the items of a body with names in the places of their ports, up to a fault: `false` if there is one.
+/// Appends the items of a body with these names in place of their ports, up to the first fault. Returns `false` if
+/// there is a fault.
 fn add_filled_items(body: &[u8], names: &[u32], out: &mut Vec<u8>) -> Result<bool, AllocError>
     ensures tiled { IfOk result (λ tiled. tiled ≡ true
         → out.new.items ≡ out.old.items ++ body_filled (items_of body.now) body.now names.now) }
@@ -87,10 +89,11 @@ fn add_filled_items(body: &[u8], names: &[u32], out: &mut Vec<u8>) -> Result<boo
     Ok(true)
 }
 
-/// Adds a body with names in the places of the ports of its items, from the left; as it is if items don't tile it.
-/// Names beyond its ports are ignored, and if there are too few, the places of the other ports are left out.
+/// Appends a body with these names in place of the ports of its items, from the left. If items don't tile the body, it
+/// is appended unchanged. Names beyond its ports are ignored. If there are too few names, the bytes of the other ports
+/// are left out.
 ///
-/// If an allocation fails, nothing changed. It allocates only for the bytes that are added.
+/// If an allocation fails, nothing changed. It allocates only for the appended bytes.
 pub fn push_filled_body(body: &[u8], names: &[u32], out: &mut Vec<u8>) -> Result<(), AllocError>
     ensures ok { OnOk result (out.new.items ≡ out.old.items ++ body_filled (items_of body.now) body.now names.now) }
     ensures err { OnErr result (out.new.items ≡ out.old.items) }

@@ -12,7 +12,7 @@ use crate::item::Item;
 use byteorder::{ByteOrder, LittleEndian};
 use codes::KernReturn;
 
-/// The item of a descriptor that passed its own tests, and what stands after it.
+/// Splits off the item of a descriptor that passed its own tests.
 fn take_item(body: &[u8], is_long: bool, fields: Fields) -> Result<(Item<'_>, &[u8]), KernReturn>
     requires whole { descriptor_length is_long ≤ length body.now }
     requires type_name { fields.type_name ≡ type_name_in body.now is_long }
@@ -43,12 +43,12 @@ fn take_item(body: &[u8], is_long: bool, fields: Fields) -> Result<(Item<'_>, &[
     Ok((item, rest))
 }
 
-/// The item that a body begins with, and what stands after it.
+/// Splits off the first item of a body.
 ///
-/// Else the code of the first test that fails. `SendMsgTooSmall`: the bytes end within the descriptor or within the
-/// data, or there are none. `SendInvalidMemory`: the data isn't inline. `SendInvalidType`: the deallocate bit or the
-/// unused bit is set, a long descriptor's word has fields, or ports don't have 32 bits. It takes no memory, and copies
-/// no byte.
+/// Otherwise it returns the code of the first test that fails. `SendMsgTooSmall`: the bytes end within the descriptor
+/// or within the data, or there are none. `SendInvalidMemory`: the data isn't inline. `SendInvalidType`: the deallocate
+/// bit or the unused bit is set, a long descriptor's first word has fields, or ports don't have 32 bits. It allocates
+/// nothing, and copies no byte.
 pub fn first_item(body: &[u8]) -> Result<(Item<'_>, &[u8]), KernReturn>
     ensures passes { OnOk result (first_failing (tests_of_item body.now) ≡ None) }
     ensures item { IfOk result (λ found. item_value found.0

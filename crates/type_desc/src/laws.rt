@@ -1,7 +1,7 @@
-// A law over filled items. It is the contract of a function that does nothing, so that the check proves it.
+// A law of filled items. It is the contract of a function that does nothing, so that the prover checks it.
 ghost use Rattle.type_desc.specs.Filling.{FilledOneByOne};
 
-/// Items are filled one by one, each with the first of the names that are left.
+/// Items are filled one by one. Each takes its names from the front of the remaining ones.
 pub fn filled_one_by_one()
     ensures { FilledOneByOne }
 {}

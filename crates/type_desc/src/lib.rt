@@ -1,5 +1,5 @@
 //! The items of a message's body (Mach 3 Kernel Interfaces): descriptors (`mach_msg_type_t` and
-//! `mach_msg_type_long_t`), each followed by its data. Each number has its lowest byte first.
+//! `mach_msg_type_long_t`), each followed by its data. Every number is little-endian.
 #![tactic(auto)]
 
 mod adding;

@@ -7,7 +7,7 @@ use crate::first::first_item;
 use crate::item::Item;
 use std::alloc::Global;
 
-/// The items that tile a body, from the left; an empty body has none. Each item's data is a slice of the body.
+/// Returns the items that tile a body, from the left; an empty body has none. Each item's data is a slice of the body.
 ///
 /// `Code`: the code of the leftmost item's first test that fails, as `first_item` returns it. `NoMemory`: out of memory
 /// for the list.

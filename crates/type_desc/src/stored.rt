@@ -8,7 +8,7 @@ use crate::item::Item;
 use std::alloc::AllocError;
 
 impl Item<'_> {
-    /// Adds a port item as a queued message has it.
+    /// Appends a port item in its queued form.
     fn add_stored_ports(&self, out: &mut Vec<u8>) -> Result<(), AllocError>
         requires { is_port_item (item_value self.now) ≡ true }
         ensures ok { OnOk result (out.new.items ≡ out.old.items ++ item_encoding (as_stored (item_value self.now))) }
@@ -19,7 +19,7 @@ impl Item<'_> {
         Ok(())
     }
 
-    /// Adds the item as it is.
+    /// Appends the item unchanged.
     pub(crate) fn add_plain(&self, out: &mut Vec<u8>) -> Result<(), AllocError>
         ensures ok { OnOk result (out.new.items ≡ out.old.items ++ item_encoding (item_value self.now)) }
         ensures part { OnErr result (Keeps out.old.items out.new.items) }
@@ -29,7 +29,7 @@ impl Item<'_> {
         Ok(())
     }
 
-    /// Adds the item as a queued message has it.
+    /// Appends the item in its queued form.
     fn add_stored(&self, out: &mut Vec<u8>) -> Result<(), AllocError>
         ensures ok { OnOk result (out.new.items ≡ out.old.items ++ item_encoding (as_stored (item_value self.now))) }
         ensures part { OnErr result (Keeps out.old.items out.new.items) }
@@ -42,7 +42,7 @@ impl Item<'_> {
         Ok(())
     }
 
-    /// Adds the bytes of the item as a queued message has it: the type as received, and 0 in each port's place.
+    /// Appends the item's bytes in queued form: the type as received, and 0 in place of each port.
     ///
     /// If an allocation fails, nothing changed.
     pub fn push_stored(&self, out: &mut Vec<u8>) -> Result<(), AllocError>
@@ -60,7 +60,7 @@ impl Item<'_> {
     }
 }
 
-/// Adds items as a queued message has them. If an allocation fails, some of them may have been added.
+/// Appends items in their queued form. If an allocation fails, some of them may have been appended.
 fn add_stored_items(items: &[Item<'_>], out: &mut Vec<u8>) -> Result<(), AllocError>
     ensures ok { OnOk result (out.new.items ≡ out.old.items
         ++ items_encoding (map as_stored (map item_value items.now))) }
@@ -72,7 +72,7 @@ fn add_stored_items(items: &[Item<'_>], out: &mut Vec<u8>) -> Result<(), AllocEr
     Ok(())
 }
 
-/// Adds the bytes of items as a queued message has them: types of ports as received, and 0 in each port's place.
+/// Appends the bytes of items in queued form: types of ports as received, and 0 in place of each port.
 ///
 /// If an allocation fails, nothing changed.
 pub fn push_stored_items(items: &[Item<'_>], out: &mut Vec<u8>) -> Result<(), AllocError>

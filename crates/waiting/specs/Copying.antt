@@ -1,4 +1,4 @@
--- Copy in, from two states in which the names that it takes stand for the same.
+-- Copy in from two states in which the names that it takes have the same entries.
 use Rattle.std.proofs.Common.{◌≡◌, ℕ, ◌-◌, Bool, true, false, cond, ◌==◌, length, nat_le, Option, None, Some, option_and_then, refl, sym, ◌∙◌, ap, subst}
 use Rattle.std.specs.Prelude.{if◌then◌else◌}
 use Rattle.std.specs.Cmp.{nat_cmp_total}
@@ -23,14 +23,14 @@ use Rattle.ipc_model.specs.state.Ipc.{Ipc, Names, entry_at, is_empty_entry, with
 use Rattle.waiting.specs.Receiving.{stands}
 use Rattle.waiting.specs.Waiting.{port_of}
 
--- two options: both of related values, or both of nothing
+-- two options that are both None, or both of related values
 abbrev pub Both : {X : Type 0} → (X → X → Type 0) → Option X → Option X → Type 0
 Both R None None = Unit {0}
 Both R None (Some y) = ⊥
 Both R (Some x) None = ⊥
 Both R (Some x) (Some y) = R x y
 
--- a change of the names of an existing space, at one name
+-- a change of one name of an existing space
 entry_changed : (state : Ipc) (space name : ℕ) (change : Names → Names) (o : Option Entry) (names : Names)
     → finmap.get state.spaces space ≡ Some names
     → ((n : Names) (k : ℕ) → finmap.get (change n) k ≡ cond (eq_by_cmp nat_cmp k name) o (finmap.get n k))
@@ -62,7 +62,7 @@ full_changed state space serial change =
       | Some m ↦ refl
     ]
 
--- a change of a port that keeps its limit and its messages
+-- a change of a port that doesn't affect whether its queue is full
 full_port : (state : Ipc) (serial other : ℕ) (change : PortState → PortState)
     → ((p : PortState) → nat_le (change p).limit (length (change p).messages) ≡ nat_le p.limit (length p.messages))
     → is_full (with_port state serial change) other ≡ is_full state other
@@ -96,8 +96,8 @@ full_port state serial other change keeps = go (finmap.get state.ports serial) r
         ∙ at_key port there (eq_by_cmp nat_cmp other serial) refl
         ∙ sym (as_fullness (finmap.get state.ports other))
 
--- The wanted names stand for the same in both states; what the one named `remote` stands for is to a wanted port; and a
--- wanted port whose queue is full in the one state has a full queue in the other.
+-- The wanted names have the same entries in both states; the wanted ports include that of the name `remote`; and each
+-- wanted port whose queue is full in the first state has a full queue in the second.
 module _ (space remote : ℕ) (wanted wanted_port : ℕ → Type 0) where
   pub record Alike (one other : Ipc) : Type 0 where
     pub entries : (name : ℕ) → wanted name → entry_at other space name ≡ entry_at one space name
@@ -133,7 +133,7 @@ module _ (space remote : ℕ) (wanted wanted_port : ℕ → Type 0) where
           ∙ to serial is)
       by_key serial false _ is = alike.port serial is
 
-  -- what is left of a name has a right to the same port, or to none
+  -- the remaining entry of a name has a right to the same port, or to none
   alike_left : (one other : Ipc) (name : ℕ) (left entry : Entry) → wanted name → entry_at one space name ≡ Some entry
       → ((serial : ℕ) → port_of left ≡ Some serial → port_of entry ≡ Some serial) → Alike one other
       → Alike (with_left one space name left) (with_left other space name left)
@@ -168,14 +168,14 @@ module _ (space remote : ℕ) (wanted wanted_port : ℕ → Type 0) where
           ap (λ (s : finmap.FinMap nat_cmp Names). option_and_then
           (λ (m : Names). finmap.get m name) (finmap.get s space)) (with_port_spaces state serial change)
 
-  -- what was taken, in the one state and in the other, from a name that stands for this
+  -- the rights taken from a name with this entry in both states
   pub record TakenAlike (entry : Entry) (one other : Taken) : Type 0 where
     pub right : other.right ≡ one.right
     pub notices : other.notices ≡ one.notices
     pub states : Alike one.state other.state
     pub to : (serial : ℕ) → live_port one.right.port ≡ Some serial → port_of entry ≡ Some serial
 
-  -- a right was taken, and this is left of its name
+  -- a right was taken, and this entry remains
   leaving : (one other : Ipc) (name : ℕ) (right : CarriedRight) (left entry : Entry) → wanted name
       → entry_at one space name ≡ Some entry → ((serial : ℕ) → port_of left ≡ Some serial → port_of entry ≡ Some serial)
       → ((serial : ℕ) → live_port right.port ≡ Some serial → port_of entry ≡ Some serial) → Alike one other
@@ -309,7 +309,7 @@ module _ (space remote : ℕ) (wanted wanted_port : ℕ → Type 0) where
   of_entry one other name disposition (Dead references) want at alike =
       of_dead one other name disposition references want at alike
 
-  -- what is known of a right that was taken from a name: it is to the port of the right that the name stands for
+  -- the right that was taken from a name is to the port of the name's entry
   pub record TakenOf (name : ℕ) (start : Ipc) (first second : Taken) : Type 0 where
     pub right : second.right ≡ first.right
     pub notices : second.notices ≡ first.notices

@@ -1,19 +1,19 @@
--- Where calls wait: at a name of a space, or at a port, each a number of its own; and lists of such places.
+-- The places where calls wait: names in spaces, and ports. Each is a number.
 use Rattle.std.proofs.Common.{◌≡◌, ◌⊎◌, inl, inr, ℕ, ◌+◌, ◌*◌, ◌^◌, Bool, true, false, ◌||◌, List, [], ◌∷◌, ◌++◌, refl, sym, ◌∙◌, ap, subst}
 use Rattle.tracked_map.specs.Touched.{is_touched, touched_append}
 use Rattle.std.specs.Ordering.{nat_cmp, eq_by_cmp}
 use Rattle.ipc_laws.specs.MapSums.{same_key}
 
--- a name of a space
+-- the place of a name in a space
 abbrev pub place_of_name : ℕ → ℕ → ℕ
 place_of_name space name = space * 2 ^ 32 + name
 
--- a port
+-- the place of a port
 abbrev pub place_of_port : ℕ → ℕ
 place_of_port serial = 2 ^ 64 + serial
 
--- Places at which a waiting call may find something to do: at each place of `changed` all calls, at each of `ready` one
--- call; or, if the list couldn't be kept because memory ran out, all calls everywhere.
+-- The places at which a waiting call may succeed: all calls at each place of `changed`, and one call at each place of
+-- `ready`. If memory for the lists ran out, `are_all` means all calls at all places.
 pub record Named : Type 0 where
   pub changed : List ℕ
   pub ready : List ℕ
@@ -22,7 +22,7 @@ pub record Named : Type 0 where
 abbrev pub names : Named → ℕ → Bool
 names named place = named.are_all || (is_touched place named.changed || is_touched place named.ready)
 
--- what was named is still named
+-- all reported places stay reported
 abbrev pub IsMore : Named → Named → Type 0
 IsMore old new = (place : ℕ) → names old place ≡ true → names new place ≡ true
 
@@ -89,6 +89,6 @@ added_ready old new place (inl is) =
     (last_touched place old.ready))
 added_ready old new place (inr is) = all_named new place (ap (λ (n : Named). n.are_all) is)
 
--- all places are named
+-- all places are reported
 pub more_all : (old new : Named) → new ≡ record old { are_all = true } → IsMore old new
 more_all old new is q named = all_named new q (ap (λ (n : Named). n.are_all) is)

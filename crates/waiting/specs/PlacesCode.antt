@@ -1,4 +1,4 @@
--- The places that a list of them stands for, as plain data.
+-- The reported places as plain data.
 use Rattle.std.specs.Prelude.{ℕ, Bool, List, refl}
 use Rattle.std.specs.Coded.{Coded, code_by, coded×, coded_ℕ, coded_bool, coded_list}
 use Rattle.waiting.specs.Places.{Named}

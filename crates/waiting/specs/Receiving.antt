@@ -1,4 +1,4 @@
--- A receive that finds no message finds none after a step that doesn't name its place.
+-- If a receive finds no message before a step that doesn't report its place, it finds none after the step.
 use Rattle.std.proofs.Common.{◌≡◌, inl, inr, ℕ, Bool, true, false, cond, List, [], ◌∷◌, length, Option, None, Some, is_some, option_map, option_and_then, ◌==◌, refl, sym, ◌∙◌, ap, subst, arith}
 use Rattle.std.proofs.lemmas.Bool.{eqb-true}
 use Rattle.std.proofs.lemmas.Bool.Decides.{nat_tests}
@@ -20,7 +20,7 @@ use Rattle.ipc_model.specs.state.Ipc.{Ipc, Names, entry_at, is_member, is_number
 use Rattle.waiting.specs.Places.{place_of_name}
 use Rattle.waiting.specs.Waiting.{Covers, IsQuiet, Occupancy, occupancy}
 
--- a port has no message to give, and isn't in a set
+-- a port is dead, or has no message and isn't in a set
 abbrev IsIdle : Option PortState → Type 0
 IsIdle None = Unit {0}
 IsIdle (Some port) = (is_some port.set ≡ false) × (is_some (oldest port.messages) ≡ false)
@@ -33,7 +33,7 @@ none_held : (messages : List Message) → length messages ≡ 0 → is_some (old
 none_held [] none = refl
 none_held (m ∷ ms) none = absurd (omega (arith, none))
 
--- there is a port, with the same set as this one and as many messages
+-- a live port with the same set as this one and as many messages
 record Occupied (o : Option PortState) (port : PortState) : Type 0 where
   before : PortState
   there : o ≡ Some before
@@ -51,7 +51,7 @@ occupied (Some before) port is =
       held = ap (λ (q : Occupancy). q.held) same;
     }
 
--- a space in which a name stands for something
+-- the space exists, and the name has this entry
 pub record Stands (o : Option Names) (name : ℕ) (entry : Entry) : Type 0 where
   pub names : Names
   pub there : o ≡ Some names
@@ -62,7 +62,7 @@ pub stands : (o : Option Names) (name : ℕ) (entry : Entry)
 stands None name entry is = absurd (cc is)
 stands (Some names) name entry is = record { names = names; there = refl; named = is }
 
--- the port under a name that holds its receive right
+-- the port of the entry that holds its receive right
 under : (state : Ipc) (names : Names) (name serial : ℕ) (entry : Entry) → finmap.get names name ≡ Some entry
     → received_port entry ≡ Some serial → port_under state names name ≡ finmap.get state.ports serial
 under state names name serial entry at holds =
@@ -70,7 +70,7 @@ under state names name serial entry at holds =
     at
     ∙ ap (λ (o : Option ℕ). option_and_then (λ (s : ℕ). finmap.get state.ports s) o) holds
 
--- the code of a name with these sources
+-- the code of a receive from a name with these sources
 code_of : (state : Ipc) (names : Names) (arguments : ReceiveArguments) (entry : Entry) (among : Option (List ℕ))
     → finmap.get names arguments.name ≡ Some entry → sources state names arguments.name (Some entry) ≡ among
     → receive_refusal state names arguments ≡ refusal_of_sources state names arguments among
@@ -86,7 +86,7 @@ no_source state names arguments P is =
       | false ↦ λ (e : _). absurd (cc e)
     ] is
 
--- what a receive that finds no message knows of its sources
+-- the sources of a receive that finds no message
 sources_empty : (state : Ipc) (names : Names) (arguments : ReceiveArguments) (among : List ℕ)
     → refusal_of_sources state names arguments (Some among) ≡ Some RcvTimedOut
     → (is_in_set state names arguments.name ≡ false) × (all_empty state names among ≡ true)
@@ -115,7 +115,7 @@ empty_sources state names arguments among outside empty =
     ∙ ap (λ (b : Bool). if b then Some RcvTimedOut else None) empty
 
 module _ (old new : Ipc) (named : ℕ → Bool) (covers : Covers old new named) (space : ℕ) where
-  -- a port under a name whose place isn't named
+  -- the port of a name whose place isn't reported
   still_idle : (name serial : ℕ) (entry : Entry) → named (place_of_name space name) ≡ false
       → entry_at new space name ≡ Some entry → received_port entry ≡ Some serial → IsIdle (finmap.get old.ports serial)
       → IsIdle (finmap.get new.ports serial)
@@ -188,7 +188,7 @@ module _ (old new : Ipc) (named : ℕ → Bool) (covers : Covers old new named) 
           let both : IsIdle (Some port) = subst IsIdle (sym is) idle in
           (both.0, ap (λ (b : Bool). if b then false else true) both.1)
 
-  -- the members of a set
+  -- The members of a set.
 
   -- the port of a member
   record IsIn (state : Ipc) (set : ℕ) (entry : Entry) : Type 0 where
@@ -229,11 +229,11 @@ module _ (old new : Ipc) (named : ℕ → Bool) (covers : Covers old new named) 
       number_itself : (n : ℕ) → (n == n) ≡ true
       number_itself n = grind (arith, nat_tests)
 
-  -- the names of the members among these entries
+  -- the names of the set's members among these entries
   abbrev members_among : Ipc → ℕ → List (ℕ × Entry) → List ℕ
   members_among state set es = map (λ e. e.0) (filter (λ e. is_member state set e.1) es)
 
-  -- no member has a message: what holds of each holds of all, and conversely
+  -- all members have no message exactly if each has none
   each_empty : (state : Ipc) (names : Names) (set : ℕ) (es : List (ℕ × Entry)) → T (is_sorted nat_cmp es)
       → ((name : ℕ) (entry : Entry) → find nat_cmp name es ≡ Some entry → is_member state set entry ≡ true
       → is_some (oldest_under state names name) ≡ false)
@@ -363,7 +363,7 @@ module _ (old new : Ipc) (named : ℕ → Bool) (covers : Covers old new named) 
               none_held member.port.messages
               (sym before.held ∙ ap length (none_oldest before.before.messages none_there))
 
-  -- A receive that found no message finds none.
+  -- A receive that found no message before finds none after the step.
   pub still_none : (names : Names) (arguments : ReceiveArguments) → finmap.get old.spaces space ≡ Some names
       → receive_refusal old names arguments ≡ Some RcvTimedOut → named (place_of_name space arguments.name) ≡ false
       → (after : Names) × (finmap.get new.spaces space ≡ Some after)

@@ -1,4 +1,4 @@
--- A send that finds no room finds none after a step that doesn't name its places.
+-- If a send finds no room before a step that doesn't report its places, it finds none after the step.
 use Rattle.std.proofs.Common.{◌≡◌, ℕ, Bool, true, false, ◌&&◌, not, List, [], ◌∷◌, ◌++◌, flat_map, Option, None, Some, option_map, option_and_then, Result, Ok, Err, refl, sym, ◌∙◌, ap, subst}
 use Rattle.std.specs.Prelude.{if◌then◌else◌, ◌==◌, nat_lt, length, zero, suc}
 use Rattle.codes.specs.declared.kern_return.KernReturn.{KernReturn}
@@ -23,7 +23,7 @@ use Rattle.ipc_model.specs.state.Ipc.{Ipc, entry_at, is_null_or_dead}
 use Rattle.waiting.specs.Copying.{Alike, Both, TakenOf, copy_in_alike}
 use Rattle.waiting.specs.Waiting.{names_in_items, port_of}
 
--- two results: both of related values, or both the same code
+-- two results that are both the same code, or both of related values
 abbrev BothDone : {X : Type 0} → (X → X → Type 0) → Result X KernReturn → Result X KernReturn → Type 0
 BothDone R (Ok x) (Ok y) = R x y
 BothDone R (Ok x) (Err code) = ⊥
@@ -45,7 +45,7 @@ or_done R code None (Some y) are = absurd are
 or_done R code (Some x) None are = absurd are
 or_done R code (Some x) (Some y) are = are
 
--- where the one finds no room, neither does the other
+-- if the first finds no room, neither does the second
 abbrev Follows : {X : Type 0} → Result X KernReturn → Result X KernReturn → Type 0
 Follows first second = first ≡ Err SendTimedOut → second ≡ Err SendTimedOut
 
@@ -72,7 +72,7 @@ module _ (space remote : ℕ) (wanted wanted_port : ℕ → Type 0) where
   abbrev Like : Ipc → Ipc → Type 0
   Like one other = Alike space remote wanted wanted_port one other
 
-  -- a destination's right, with its live port
+  -- the right of a destination and its live port
   record DestinationAlike (one other : TakenDestination) : Type 0 where
     right : other.taken.right ≡ one.taken.right
     notices : other.taken.notices ≡ one.taken.notices
@@ -218,7 +218,7 @@ module _ (space remote : ℕ) (wanted wanted_port : ℕ → Type 0) where
             notices = both_notices _ _ _ _ first.notices second.notices;
           }))
 
-  -- the rights of the body
+  -- The rights of the body.
 
   abbrev pub AllWanted : List ℕ → Type 0
   AllWanted [] = Unit {0}
@@ -329,7 +329,7 @@ module _ (space remote : ℕ) (wanted wanted_port : ℕ → Type 0) where
       go later (Some x) None are = absurd are
       go later (Some x) (Some y) are = later x y are
 
-  -- the queue
+  -- The queue.
 
   queue_follows : (parts : UsedParts) (items : List Item) (header other_header : TakenHeader)
       (taken other_taken : TakenRights) → HeaderAlike header other_header → RightsAlike taken other_taken
@@ -356,7 +356,7 @@ module _ (space remote : ℕ) (wanted wanted_port : ℕ → Type 0) where
       full_of true full false stopped ready e = absurd (cc e)
       full_of false full c stopped ready e = absurd (cc e)
 
-  -- A send that finds no room in the one state finds none in the other.
+  -- A send that finds no room in the first state finds none in the second.
   of_items : (one other : Ipc) (parts : UsedParts) (by : Disposition) (reply : Option Disposition) (items : List Item)
       → parts.remote ≡ remote → wanted remote → wanted parts.local → AllWanted (flat_map names_of_item items)
       → Like one other
@@ -402,7 +402,7 @@ module _ (space remote : ℕ) (wanted wanted_port : ℕ → Type 0) where
       by_disposition (Ok by) (Ok reply) (Ok items) wants =
           of_items one other parts by reply items at want want_local wants alike
 
--- Only the queue's test answers that the send timed out.
+-- Only the test of the queue has the code MACH_SEND_TIMED_OUT.
 
 abbrev Untimed : {X : Type 0} → Result X KernReturn → Type 0
 Untimed result = result ≡ Err SendTimedOut → ⊥
@@ -414,7 +414,7 @@ abbrev IsOther : KernReturn → Type 0
 IsOther SendTimedOut = ⊥
 IsOther code = Unit {0}
 
--- whether each test has a code other than MACH_SEND_TIMED_OUT
+-- no test has the code MACH_SEND_TIMED_OUT
 abbrev AreOther : Tests → Type 0
 AreOther [] = Unit {0}
 AreOther (test ∷ tests) = IsOther test.1 × AreOther tests
@@ -491,7 +491,7 @@ header_untimed state space remote by local reply =
     (λ first _. then_untimed (take_reply first.taken.state space local reply) _
     (reply_untimed first.taken.state space local reply) (λ second _. fine _)))
 
--- Where the destination's name stands for nothing, no header is taken.
+-- If the destination's name isn't in use, the header isn't taken.
 no_header : (state : Ipc) (space remote : ℕ) (by : Disposition) (local : ℕ) (reply : Option Disposition)
     → entry_at state space remote ≡ None → (header : TakenHeader)
     → take_header state space remote by local reply ≡ Ok header → ⊥
@@ -510,7 +510,7 @@ no_header state space remote by local reply none header is =
     go (Ok x) is both = both.is_wanted
     go (Err code) is both = absurd (cc is)
 
--- A send that finds no room has a destination's name.
+-- If a send finds no room, its destination's name is in use.
 pub has_destination : (state : Ipc) (space : ℕ) (parts : UsedParts)
     → ready_by_parts state space parts ≡ Err SendTimedOut → (entry : Entry)
     × (entry_at state space parts.remote ≡ Some entry)

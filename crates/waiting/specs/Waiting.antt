@@ -1,4 +1,4 @@
--- Calls that find nothing to do, the places where they wait, and what a step has to name of these.
+-- Calls that can't proceed, the places where they wait, and the places that a step must report.
 use Rattle.std.specs.Prelude.{◌≡◌, ◌⊎◌, ℕ, Bool, true, false, List, [], ◌∷◌, ◌++◌, length, map, flat_map, Contains, Option, None, Some, option_map, option_and_then, Result, Ok, Err}
 use Rattle.std.specs.FinMap as finmap
 use Rattle.codes.specs.declared.kern_return.KernReturn.{KernReturn}
@@ -17,8 +17,8 @@ use Rattle.ipc_model.specs.messages.Sending.{is_full, items_if_complex}
 use Rattle.ipc_model.specs.state.Ipc.{Ipc, entry_at, received_port}
 use Rattle.waiting.specs.Places.{place_of_name, place_of_port}
 
--- A call of a task of this space finds nothing to do: a send finds no room in the queue, a receive no message. It may
--- be answered so, and then changes nothing.
+-- A call of a task in this space can't proceed: a send finds no room in the queue, a receive no message. Such a reply
+-- is possible, and changes nothing.
 abbrev pub FindsNothing : Ipc → ℕ → PlainCall → Type 0
 FindsNothing state space (call.Send message) =
     Answer state space (call.Send message) (without_message SendTimedOut 0 MACH_PORT_NULL)
@@ -26,7 +26,7 @@ FindsNothing state space (call.Receive limit large name waited) =
     Answer state space (call.Receive limit large name waited) (without_message RcvTimedOut 0 MACH_PORT_NULL)
 FindsNothing state space c = ⊥
 
--- the port that a name stands for a right to
+-- the port of the right in an entry
 abbrev pub port_of : Entry → Option ℕ
 port_of (Port rights) = Some rights.port
 port_of (SendOnce port target) = Some port
@@ -38,11 +38,11 @@ abbrev pub names_in_items : Result (List Item) KernReturn → List ℕ
 names_in_items (Ok items) = flat_map names_of_item items
 names_in_items (Err code) = []
 
--- the names that a message cites: its destination's, its reply port's, and those in its body
+-- the names in a message: the destination's, the reply port's, and those in its body
 abbrev pub names_cited : UsedParts → List ℕ
 names_cited parts = parts.remote ∷ parts.local ∷ names_in_items (items_if_complex parts.complex parts.body)
 
--- where a send waits: at each name that its message cites, and at the port that its destination's stands for
+-- the places of a send: each name in its message, and the port of the destination's name
 abbrev pub place_of_destination : Option ℕ → List ℕ
 place_of_destination (Some serial) = place_of_port serial ∷ []
 place_of_destination None = []
@@ -52,7 +52,7 @@ places_of_send state space parts =
     map (place_of_name space) (names_cited parts)
     ++ place_of_destination (option_and_then port_of (entry_at state space parts.remote))
 
--- Where a call that finds nothing to do waits: a receive waits at its name, a send as above. No other call waits.
+-- The places where a call waits that can't proceed: a receive at its name, a send as above. No other call waits.
 abbrev pub places_of_call : Ipc → ℕ → PlainCall → List ℕ
 places_of_call state space (call.Receive limit large name waited) = place_of_name space name ∷ []
 places_of_call state space (call.Send message) = places_of_send state space (used_parts message)
@@ -61,14 +61,15 @@ places_of_call state space c = []
 abbrev pub WaitsAt : Ipc → ℕ → PlainCall → ℕ → Type 0
 WaitsAt state space c place = Contains (places_of_call state space c) place
 
--- No wake-up is lost: a call that found nothing to do before a step, and waits at no place that the step names, finds
--- nothing after it either.
+-- No wake-up is lost: a call that can't proceed before a step, and waits at no place that the step reports, can't
+-- proceed after it either.
 abbrev pub Wakes : Ipc → Ipc → (ℕ → Bool) → Type 0
 Wakes old new named =
     (space : ℕ) (call : PlainCall) → FindsNothing old space call
     → ((place : ℕ) → WaitsAt old space call place → named place ≡ false) → FindsNothing new space call
 
--- what a waiting call depends on of a port: how many messages its queue may hold and holds, and the port's set
+-- the properties of a port on which a waiting call depends: the limit of its queue, the number of its messages, and its
+-- set
 pub record Occupancy : Type 0 where
   pub limit : ℕ
   pub held : ℕ
@@ -80,23 +81,23 @@ occupancy port = record { limit = port.limit; held = length port.messages; set =
 abbrev pub occupancy_at : Ipc → ℕ → Option Occupancy
 occupancy_at state serial = option_map occupancy (finmap.get state.ports serial)
 
--- a port without a message, in no set
+-- a port without messages that isn't in a set
 abbrev pub IsQuiet : PortState → Type 0
 IsQuiet port = (port.set ≡ None) × (port.messages ≡ [])
 
--- Which changes from one state to another the places have to name.
+-- The changes between two states that the places have to report:
 pub record Covers (old new : Ipc) (named : ℕ → Bool) : Type 0 where
-  -- each name that stands for something else
+  -- each name whose entry changed
   pub entries : (space name : ℕ) → named (place_of_name space name) ≡ false
       → entry_at new space name ≡ entry_at old space name
-  -- each port whose queue was full and has room, or is gone
+  -- each port whose queue was full and no longer is, or that died
   pub room : (serial : ℕ) → named (place_of_port serial) ≡ false → is_full old serial ≡ true → is_full new serial ≡ true
-  -- each name whose port got a message, or is in a set now
+  -- each name whose port got a message or is in a set now
   pub ports : (space name : ℕ) (entry : Entry) (serial : ℕ) (port : PortState)
       → named (place_of_name space name) ≡ false → entry_at new space name ≡ Some entry
       → received_port entry ≡ Some serial
       → finmap.get new.ports serial ≡ Some port → IsQuiet port ⊎ (occupancy_at old serial ≡ occupancy_at new serial)
-  -- each set of which a member got a message, or to which a member came with one
+  -- each set of which a member got a message, or that got a member with one
   pub sets : (space set name : ℕ) (entry : Entry) (serial : ℕ) (port : PortState)
       → named (place_of_name space set) ≡ false → entry_at new space name ≡ Some entry
       → received_port entry ≡ Some serial

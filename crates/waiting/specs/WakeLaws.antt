@@ -1,4 +1,4 @@
--- No wake-up is lost where a step names what changed.
+-- No wake-up is lost if a step reports its changes.
 use Rattle.std.proofs.Common.{◌≡◌, ℕ, Bool, true, false, List, [], ◌∷◌, map, nat_lt, Option, None, Some, MatchOption, option_and_then, Result, Ok, Err, refl, sym, ◌∙◌, ap, subst, arith}
 use Rattle.std.specs.Prelude.{Contains, MatchBool, MatchResult, length, ◌<◌, slice_index_or, suc, zero}
 use Rattle.std.specs.FinMap as finmap
@@ -37,7 +37,7 @@ some_code : (o : Option KernReturn) (code : KernReturn) (A B C : Type 0)
 some_code None code A B C is never = absurd (never is)
 some_code (Some c) code A B C is never = ap (λ (k : KernReturn). Some k) (sym (code_same code c is.0))
 
--- a receive that takes a message, or has no room for its names, gets another answer
+-- a receive that takes a message, or lacks names for its rights, has another reply
 takes_none : (old : Ipc) (space : ℕ) (names : Names) (arguments : ReceiveArguments) (member serial : ℕ)
     (port : PortState) (message : Message) (acted : Ipc) (effects : List Effect)
     → TakesOut old space names arguments member serial port message
@@ -87,7 +87,7 @@ refused_send old space message acted effects names is = go (ready_to_send old sp
 abbrev no_effects : List Effect
 no_effects = []
 
--- and conversely
+-- the converse
 matches_code : (o : Option KernReturn) (code : KernReturn) (A B C : Type 0) → o ≡ Some code → B → C
     → MatchOption o A (λ c. (without_message code 0 MACH_PORT_NULL ≡ without_message c 0 MACH_PORT_NULL) × B × C)
 matches_code o code A B C is b c =
@@ -217,7 +217,7 @@ module _ (old new : Ipc) (named : ℕ → Bool) (covers : Covers old new named) 
           (subst (λ (o : Option ℕ). Contains (place_of_destination o) (place_of_port serial)) (sym to)
           (zero, omega arith, refl)))
 
-      -- a send whose message cites these names
+      -- a send with these names in its message
       still : (parts : UsedParts) → ((name : ℕ) → Contains (names_cited parts) name → wanted name)
           → ((serial : ℕ) → option_and_then port_of (entry_at old space parts.remote) ≡ Some serial
           → wanted_port serial)

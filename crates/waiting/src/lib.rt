@@ -1,4 +1,4 @@
-//! Where calls wait that find nothing to do, and which of these places a step has to name, so that no wake-up is lost.
+//! The places where calls wait that can't proceed, and the places that a step must report so that no wake-up is lost.
 #![tactic(auto)]
 
 mod places;

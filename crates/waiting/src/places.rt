@@ -4,28 +4,28 @@ ghost use Rattle.waiting.specs.Places.{IsMore, names, place_of_name, place_of_po
 use std::alloc::Global;
 use std::marker::Model;
 
-/// The place of a name of a space. Receives from the name wait there, and sends whose messages cite it.
+/// Returns the place of a name in a space. Receives from the name wait there, and sends whose messages contain it.
 pub fn place_of_name(space: u32, name: u32) -> u128
     ensures { result ≡ place_of_name space name }
 {
     u128::from(space) * (1 << 32) + u128::from(name)
 }
 
-/// The place of a port. Sends to it wait there.
+/// Returns the place of a port. Sends to the port wait there.
 pub fn place_of_port(serial: u64) -> u128
     ensures { result ≡ place_of_port serial }
 {
     (1 << 64) + u128::from(serial)
 }
 
-/// Whether a place is a port's rather than a name's.
+/// Returns true if a place is a port's and not a name's.
 pub fn is_place_of_port(place: u128) -> bool
     ensures { MatchBool result (2 ^ 64 ≤ place) (place < 2 ^ 64) }
 {
     1 << 64 <= place
 }
 
-/// The places at which a step may have given waiting calls something to do.
+/// The places at which waiting calls may succeed after a step.
 #[derive(Drop)]
 pub struct Places {
     changed: Vec<u128>,
@@ -46,7 +46,7 @@ impl Model for Places {
 }
 
 impl Places {
-    /// No places. It takes no memory.
+    /// Creates an empty list of places. It allocates nothing.
     pub fn none(alloc: Global) -> Self
         ensures { result ≡ record { changed = []; ready = []; are_all = false } }
     {
@@ -57,7 +57,7 @@ impl Places {
         }
     }
 
-    /// Forgets the places.
+    /// Removes all places.
     pub fn clear(&mut self)
         ensures { self.new ≡ record { changed = []; ready = []; are_all = false } }
     {
@@ -67,7 +67,7 @@ impl Places {
     }
 
     /// Adds a place that changed: each call that waits there may be answered now. If an allocation fails, all places
-    /// are named.
+    /// count as reported.
     pub fn add_changed(&mut self, place: u128)
         ensures added { names self.new place ≡ true }
         ensures kept { IsMore self.old self.new }
@@ -86,7 +86,8 @@ impl Places {
         }
     }
 
-    /// Adds a place at which one of the waiting calls may be done now. If an allocation fails, all places are named.
+    /// Adds a place at which one of the waiting calls may succeed now. If an allocation fails, all places count as
+    /// reported.
     pub fn add_ready(&mut self, place: u128)
         ensures added { names self.new place ≡ true }
         ensures kept { IsMore self.old self.new }
@@ -105,28 +106,28 @@ impl Places {
         }
     }
 
-    /// Names all places.
+    /// Reports all places.
     pub fn add_all(&mut self)
         ensures { self.new ≡ record self.old { are_all = true } }
     {
         self.are_all = true;
     }
 
-    /// The places that changed.
+    /// Returns the places that changed.
     pub fn changed(&self) -> &[u128]
         ensures { result.now ≡ self.now.changed }
     {
         self.changed.as_slice()
     }
 
-    /// The places at which one call may be done.
+    /// Returns the places at which one waiting call may succeed.
     pub fn ready(&self) -> &[u128]
         ensures { result.now ≡ self.now.ready }
     {
         self.ready.as_slice()
     }
 
-    /// Whether every place is named, since the list of them couldn't be kept.
+    /// Returns true if all places count as reported, because an allocation for the list failed.
     pub fn are_all(&self) -> bool
         ensures { result ≡ self.now.are_all }
     {

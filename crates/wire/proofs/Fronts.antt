@@ -1,4 +1,4 @@
--- What stands at the front of an input, by the steps that read it; and the bytes of a frame are read back.
+-- The front of an input in terms of the steps that read it. The bytes of a frame are read back as that frame.
 use Rattle.std.proofs.Common.{◌≡◌, ℕ, ◌<◌, ◌≤◌, true, false, eqb, ltb, List, [], ◌++◌, length, take, drop, Option, Some, None, Ok, Err, IfSome, refl, sym, ap, subst, ◌∙◌, append_assoc, arith, le-ltb, lt-ltb, ne_eqb, length-append, take_at, drop_at}
 use Rattle.std.proofs.KnownBytes.{Consumes-trans}
 use Rattle.byteorder.specs.Endian.{little_number}
@@ -9,7 +9,7 @@ use Rattle.wire.specs.declared.fault.WireFault.TheVariants.{Short, TooLong, Devi
 use Rattle.wire.specs.Frame.{FrameValue, whole, faulty, content_at, front_of, IsContentLength, IsWithinFrame, IsReadOf}
 use Rattle.wire.specs.Reading.{IsLengthOf, IsContentOf}
 
--- the parts of an input that has a length word
+-- the length word of an input and the rest
 front_parts : (input : List ℕ) (n : ℕ) (rest : List ℕ) → 4 ≤ length input → little_number 4 input ≡ n
     → drop 4 input ≡ rest → front_of input ≡ content_at n rest
 front_parts input n rest long number-is rest-is =
@@ -17,13 +17,13 @@ front_parts input n rest long number-is rest-is =
     let enough : ltb (length input) 4 ≡ false = le-ltb _ _ long in
     rw (some, enough, number-is, rest-is) refl
 
--- after a length word
+-- the front of an input that begins with the length word n
 front_after : (n : ℕ) (rest : List ℕ) → IsContentLength n → front_of (word n ++ rest) ≡ content_at n rest
 front_after n rest fits =
     front_parts (word n ++ rest) n rest (omega (arith, length-append (word n) rest))
     (little_number-reads_back 4 n rest (omega (arith, fits.greatest))) refl
 
--- enough bytes after the length word, and too few
+-- the front where the bytes after the length word suffice, and where they don't
 content_whole : (n : ℕ) (rest : List ℕ) → IsContentLength n → n ≤ length rest
     → content_at n rest ≡ whole (take n rest) (drop n rest)
 content_whole n rest fits long =
@@ -54,13 +54,13 @@ front_of_encoding content rest fits =
     ap front_of regrouped ∙ front_after (length content) (content ++ rest) fits
     ∙ content_whole (length content) (content ++ rest) fits long ∙ parts
 
--- a length word and its content are a frame
+-- a length word and a content of that length are a frame
 frame_encoding_of : (n : ℕ) (content rest : List ℕ) → length content ≡ n
     → word n ++ (content ++ rest) ≡ frame_encoding content ++ rest
 frame_encoding_of n content rest len =
     ap (λ (k : ℕ). word k ++ (content ++ rest)) (sym len) ∙ sym (append_assoc (word (length content)) content rest)
 
--- the two steps of a frame that was read, and where it stood
+-- a frame that both steps read was at the front of the input
 frame_found : (old mid new : Option (List ℕ)) (n : ℕ) (frame : FrameValue)
     → IfSome old (λ input. IsLengthOf input (Ok (Some n)) mid)
     → IfSome mid (λ input. IsContentOf n input (Ok frame) new)
@@ -75,7 +75,7 @@ frame_found (Some xs) (Some ys) new n frame first second =
       left,
     )
 
--- what the two steps of reading a frame answer together
+-- the result of reading a frame, from the results of both steps
 pub frame_read : (old mid new : Option (List ℕ)) (n : ℕ) (frame : FrameValue) → IsContentLength n
     → IfSome old (λ input. IsLengthOf input (Ok (Some n)) mid)
     → IfSome mid (λ input. IsContentOf n input (Ok frame) new)
@@ -90,18 +90,18 @@ frame_read (Some xs) (Some ys) new n frame fits first second =
       left,
     )
 
--- the number of a length word, whatever follows it
+-- the number of a length word, with any bytes after it
 number_after : (n : ℕ) (rest : List ℕ) → IsContentLength n → little_number 4 (word n ++ rest) ≡ n
 number_after n rest fits = little_number-reads_back 4 n rest (omega (arith, fits.greatest))
 
--- what was read of the content, with the length word
+-- part of the content, after the length word, is within the frame
 within_frame : (n : ℕ) (taken : List ℕ) → IsContentLength n → length taken ≤ n → IsWithinFrame (word n ++ taken)
 within_frame n taken fits few =
     λ (long : 4 < length (word n ++ taken)).
     let number-is = number_after n taken fits in
     (subst IsContentLength (sym number-is) fits, omega (arith, number-is, length-append (word n) taken))
 
--- a length word, and a fault in the content after it
+-- a fault in the content after a length word
 after_length : (ys : List ℕ) (new : Option (List ℕ)) (n : ℕ) (fault : WireFault) → IsContentLength n
     → IsContentOf n ys (Err fault) new → IsReadOf (word n ++ ys) (Err fault) new
 after_length ys new n Short fits second = ([], front_after n ys fits ∙ content_short n ys fits second.0, second.1)
@@ -115,7 +115,7 @@ after_length ys new n Device fits second =
 after_length ys new n NoMemory fits second =
     (omega (arith, length-append (word n) ys), subst IsContentLength (sym (number_after n ys fits)) fits, second)
 
--- what the two steps answer if the second one fails
+-- the result of reading a frame if the second step fails
 pub content_failed : (old mid new : Option (List ℕ)) (n : ℕ) (fault : WireFault) → IsContentLength n
     → IfSome old (λ input. IsLengthOf input (Ok (Some n)) mid)
     → IfSome mid (λ input. IsContentOf n input (Err fault) new)

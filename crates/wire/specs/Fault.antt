@@ -1,4 +1,4 @@
--- The numbers and the lines of text of the faults.
+-- The numbers and the messages of the faults.
 use Rattle.std.specs.Prelude.{ℕ, List, codes}
 use Rattle.wire.specs.declared.fault.WireFault.{WireFault}
 use Rattle.wire.specs.declared.fault.WireFault.TheVariants.{Short, TooLong, Device, NoMemory}
@@ -15,7 +15,7 @@ fault_text TooLong = codes "too long"
 fault_text Device = codes "device"
 fault_text NoMemory = codes "no memory"
 
--- a fault's line of errors
+-- the line that a program prints for a fault
 abbrev pub fault_line : WireFault → List ℕ
 fault_line Short = codes "wire fault 1: short\n"
 fault_line TooLong = codes "wire fault 2: too long\n"

@@ -1,4 +1,4 @@
--- What a frame holds, and what the front of an input is.
+-- The value of a frame, and how the front of an input is read.
 use Rattle.std.specs.Prelude.{◌≡◌, refl, ℕ, ◌+◌, ◌<◌, ◌≤◌, List, [], length, take, drop, Option, None, Some, Result, Ok, Err, nat_lt, ◌==◌, if◌then◌else◌}
 use Rattle.std.specs.Io.KnownBytes.{Consumes}
 use Rattle.std.specs.Coded.{Coded, code_by, coded×, coded_list, coded_ℕ}
@@ -7,7 +7,7 @@ use Rattle.codes.specs.declared.limits.TheConstants.{MIN_FRAME_CONTENT, MAX_FRAM
 use Rattle.wire.specs.declared.fault.WireFault.{WireFault}
 use Rattle.wire.specs.declared.fault.WireFault.TheVariants.{Short, TooLong, Device, NoMemory}
 
--- a frame's content, and how many bytes of content it has room for without an allocation
+-- a frame's content, and the length up to which the content grows without an allocation
 pub record FrameValue : Type 0 where
   pub content : List ℕ
   pub room : ℕ
@@ -17,19 +17,19 @@ frame_code =
     code_by (List ℕ × ℕ) (coded× (coded_list coded_ℕ) coded_ℕ) (λ f. (f.content, f.room))
     (λ p. record { content = p.0; room = p.1 }) (λ _. refl)
 
--- a count of bytes that a frame's length may give
+-- n is a valid value of a frame's length word
 pub record IsContentLength (n : ℕ) : Type 0 where
   pub least : MIN_FRAME_CONTENT ≤ n
   pub greatest : n ≤ MAX_FRAME_CONTENT
 
--- What the front of an input is: nothing, a whole frame's content, or the first fault from the left; and the
--- input that is left after what was read.
+-- The front of an input: its end, a whole frame's content, or the first fault, each with the input that is left after
+-- the bytes that were read.
 pub data Front : Type 0 where
   ended : Front
   whole : (content left : List ℕ) → Front
   faulty : (fault : WireFault) (left : List ℕ) → Front
 
--- what the rest of the input is, after a length word of n
+-- the front of an input after a length word of n
 abbrev pub content_at : ℕ → List ℕ → Front
 content_at n rest =
     if nat_lt n MIN_FRAME_CONTENT then faulty Short rest
@@ -43,13 +43,13 @@ front_of input =
     else if nat_lt (length input) 4 then faulty Short []
     else content_at (little_number 4 input) (drop 4 input)
 
--- bytes that end no later than the frame does, and no later than its length word if that is wrong
+-- The bytes end within the first frame: not after its end, and not after its length word if that is invalid.
 abbrev pub IsWithinFrame : List ℕ → Type 0
 IsWithinFrame taken =
     4 < length taken → IsContentLength (little_number 4 taken) × (length taken ≤ 4 + little_number 4 taken)
 
--- A read of the input with this result, which left this of it. Memory may run out once the length is read, and a reader
--- may fail at any byte of the frame.
+-- Reading the input may have this result and leave this of it. Memory may run out once the length was read, and a
+-- reader may fail at any byte of the frame.
 abbrev pub IsReadOf : List ℕ → Result (Option FrameValue) WireFault → Option (List ℕ) → Type 0
 IsReadOf input (Ok None) left = (front_of input ≡ ended) × (left ≡ Some [])
 IsReadOf input (Ok (Some frame)) left =
@@ -60,7 +60,8 @@ IsReadOf input (Err Device) left = (taken : List ℕ) × Consumes (Some input) l
 IsReadOf input (Err NoMemory) left =
     (4 ≤ length input) × IsContentLength (little_number 4 input) × (left ≡ Some (drop 4 input))
 
--- A frame of this content was read, or the reader failed, or memory ran out.
+-- A read of an input that begins with the frame of this content may have this result: the frame, a fault of the reader,
+-- or out of memory.
 abbrev pub IsFrameRead : List ℕ → Result (Option FrameValue) WireFault → Type 0
 IsFrameRead content (Ok None) = ⊥
 IsFrameRead content (Ok (Some frame)) = frame.content ≡ content

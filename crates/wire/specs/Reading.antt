@@ -1,4 +1,4 @@
--- The two steps of reading a frame, each by its result and what it left of the input.
+-- The two steps of reading a frame, each with its result and the input that it leaves.
 use Rattle.std.specs.Prelude.{◌≡◌, ℕ, ◌<◌, ◌≤◌, List, [], ◌++◌, length, Option, None, Some, Result, Ok, Err}
 use Rattle.std.specs.Io.KnownBytes.{Consumes}
 use Rattle.words.specs.Words.{word}
@@ -6,11 +6,11 @@ use Rattle.wire.specs.Frame.{FrameValue, ended, faulty, front_of}
 use Rattle.wire.specs.declared.fault.WireFault.{WireFault}
 use Rattle.wire.specs.declared.fault.WireFault.TheVariants.{Short, TooLong, Device, NoMemory}
 
--- known bytes lost n bytes at most from their front
+-- if the input is known before and after, at most n bytes were consumed from its front
 abbrev pub ConsumesPart : Option (List ℕ) → Option (List ℕ) → ℕ → Type 0
 ConsumesPart old new n = (taken : List ℕ) × (length taken ≤ n) × Consumes old new taken
 
--- the length word at the front of the input
+-- reading the length word of the input may have this result and leave this of it
 abbrev pub IsLengthOf : List ℕ → Result (Option ℕ) WireFault → Option (List ℕ) → Type 0
 IsLengthOf input (Ok None) left = (front_of input ≡ ended) × (left ≡ Some [])
 IsLengthOf input (Ok (Some n)) left = (rest : List ℕ) × (input ≡ word n ++ rest) × (left ≡ Some rest)
@@ -19,7 +19,7 @@ IsLengthOf input (Err TooLong) left = (rest : List ℕ) × (front_of input ≡ f
 IsLengthOf input (Err Device) left = ConsumesPart (Some input) left 4
 IsLengthOf input (Err NoMemory) left = ⊥
 
--- the n bytes of content after it
+-- reading n bytes of content may have this result and leave this of the input
 abbrev pub IsContentOf : ℕ → List ℕ → Result FrameValue WireFault → Option (List ℕ) → Type 0
 IsContentOf n input (Ok frame) left =
     (rest : List ℕ) × (input ≡ frame.content ++ rest) × (length frame.content ≡ n) × (left ≡ Some rest)

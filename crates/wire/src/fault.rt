@@ -6,7 +6,7 @@ use std::alloc::AllocError;
 use std::error::Error;
 use std::fmt;
 
-/// Why a frame couldn't be read or written.
+/// The reason why a frame couldn't be read or written.
 #[derive(Clone, Copy, Debug, PartialEq, Eq)]
 pub enum WireFault {
     /// The input ends within a frame, or a length is below 4.
@@ -15,19 +15,19 @@ pub enum WireFault {
     TooLong = 2,
     /// The reader or the writer failed.
     Device = 3,
-    /// Memory ran out.
+    /// Out of memory.
     NoMemory = 4,
 }
 
 impl WireFault {
-    /// The fault's number.
+    /// Returns the fault's number.
     pub fn number(self) -> u32
         ensures { result ≡ fault_number self }
     {
         self as u32
     }
 
-    /// The fault as a line of errors, after the name of a program: its kind, its number and its text.
+    /// Returns the fault as the line that a program prints after its own name: its kind, its number and its text.
     pub fn line(self) -> &'static str
         ensures { result.now ≡ fault_line self }
     {

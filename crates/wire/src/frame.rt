@@ -9,8 +9,8 @@ use codes::MAX_FRAME_CONTENT;
 use std::alloc::{AllocError, Global};
 use std::marker::Model;
 
-/// A frame: a call's number and its arguments. Its room, in bytes, is what the content can grow to
-/// without taking memory.
+/// A frame: a call's number and its arguments. Its room is the length, in bytes, up to which its content grows without
+/// an allocation.
 #[derive(Drop)]
 pub struct Frame {
     bytes: BytesMut,
@@ -30,8 +30,8 @@ impl Model for Frame {
 }
 
 impl Frame {
-    /// A frame with the number 0 and no arguments, and with room for at least `room` bytes. It fails only if memory
-    /// runs out.
+    /// Creates a frame with the number 0, no arguments and room for at least `room` bytes. It fails only if out of
+    /// memory.
     pub fn with_room(alloc: Global, room: usize) -> Result<Frame, AllocError>
         requires { 4 ≤ room }
         ensures content { IfOk result (λ frame. frame.content ≡ word 0) }
@@ -42,7 +42,7 @@ impl Frame {
         Ok(Frame { bytes })
     }
 
-    /// A frame with this content. It fails only if memory runs out.
+    /// Creates a frame with this content. It fails only if out of memory.
     pub fn from_content(alloc: Global, content: &[u8]) -> Result<Frame, AllocError>
         requires { IsContentLength (length content.now) }
         ensures { IfOk result (λ frame. frame.content ≡ content.now) }
@@ -51,7 +51,7 @@ impl Frame {
         Ok(Frame { bytes })
     }
 
-    // It copies no byte.
+    // Creates a frame from its content without copying.
     pub(crate) fn from_vec(content: Vec<u8>) -> Frame
         requires { IsContentLength (length content.items) }
         ensures { result.content ≡ content.items }
@@ -61,7 +61,7 @@ impl Frame {
         }
     }
 
-    /// Makes this a frame with this number and no arguments. The room doesn't shrink.
+    /// Replaces the content by this number without arguments. The room doesn't shrink.
     pub fn start(&mut self, number: u32)
         ensures content { self.new.content ≡ word number }
         ensures room { self.old.room ≤ self.new.room }
@@ -70,7 +70,7 @@ impl Frame {
         self.bytes.extend_reserved(&number.to_le_bytes());
     }
 
-    /// Adds a number to the arguments. It takes no memory.
+    /// Appends a number to the arguments. It allocates nothing.
     pub fn put_word(&mut self, value: u32)
         requires room { length self.old.content + 4 ≤ self.old.room }
         requires limit { length self.old.content + 4 ≤ MAX_FRAME_CONTENT }
@@ -80,7 +80,7 @@ impl Frame {
         self.bytes.extend_reserved(&value.to_le_bytes());
     }
 
-    /// Adds bytes to the arguments. It takes no memory.
+    /// Appends bytes to the arguments. It allocates nothing.
     pub fn put_bytes(&mut self, bytes: &[u8])
         requires room { length self.old.content + length bytes.now ≤ self.old.room }
         requires limit { length self.old.content + length bytes.now ≤ MAX_FRAME_CONTENT }
@@ -90,7 +90,7 @@ impl Frame {
         self.bytes.extend_reserved(bytes);
     }
 
-    /// The call's number and its arguments.
+    /// Returns the call's number and its arguments.
     pub fn content(&self) -> &[u8]
         ensures value { result.now ≡ self.now.content }
         ensures limits { IsContentLength (length self.now.content) }
@@ -98,21 +98,21 @@ impl Frame {
         self.bytes.as_slice()
     }
 
-    /// The call's number.
+    /// Returns the call's number.
     pub fn number(&self) -> u32
         ensures { result ≡ little_number 4 self.now.content }
     {
         LittleEndian::read_u32(self.content())
     }
 
-    /// The call's arguments.
+    /// Returns the call's arguments.
     pub fn arguments(&self) -> &[u8]
         ensures { result.now ≡ drop 4 self.now.content }
     {
         &self.content()[4..]
     }
 
-    /// How many bytes of content it has room for.
+    /// Returns the length in bytes up to which the content grows without an allocation.
     pub fn room(&self) -> usize
         ensures value { result ≡ self.now.room }
         ensures least { length self.now.content ≤ result }

@@ -1,5 +1,5 @@
-//! Frames on a stream of bytes. A frame is the number of its content's bytes, from 4 to 65,532, in four bytes, followed
-//! by the content: a call's number in four bytes, and the call's arguments. Each number has its lowest byte first.
+//! Frames on a byte stream. A frame is the length of its content, from 4 to 65,532, in four bytes, followed by the
+//! content: a call's number in four bytes, and the call's arguments. Every number is little-endian.
 #![tactic(auto)]
 
 mod fault;

@@ -12,7 +12,7 @@ use codes::{MAX_FRAME_CONTENT, MIN_FRAME_CONTENT};
 use std::alloc::Global;
 use std::io::{ErrorKind, Read};
 
-// One read, retried if a signal interrupts it.
+// Makes one read, which is retried if a signal interrupts it.
 fn read_some<R: Read>(reader: &mut R, buffer: &mut [u8]) -> Result<usize, WireFault>
     ensures bound { ReadsAtMost result buffer.new }
     ensures bytes { IfOk result
@@ -57,7 +57,7 @@ fn fill<R: Read>(reader: &mut R, buffer: &mut [u8]) -> Result<usize, WireFault>
     Ok(filled)
 }
 
-// The number of a length word.
+// Returns the number in a length word.
 fn number_of(bytes: [u8; 4]) -> u32
     ensures value { result ≡ little_number 4 bytes }
     ensures encoded { word result ≡ bytes }
@@ -65,7 +65,7 @@ fn number_of(bytes: [u8; 4]) -> u32
     u32::from_le_bytes(bytes)
 }
 
-// Reads a frame's length word, or `None` at an end before it.
+// Reads a frame's length word. Returns `None` if the input ends before it.
 fn read_length<R: Read>(reader: &mut R) -> Result<Option<u32>, WireFault>
     ensures exact { IfSome (R.remaining reader.old)
         (λ input. IsLengthOf input result (R.remaining reader.new)) }
@@ -103,7 +103,7 @@ fn read_content<R: Read>(alloc: Global, reader: &mut R, length: u32) -> Result<F
     Ok(Frame::from_vec(content))
 }
 
-// Reads a frame in its two steps.
+// Reads a frame in two steps: its length word and its content.
 fn read_parts<R: Read>(alloc: Global, reader: &mut R) -> Result<Option<Frame>, WireFault>
     ensures exact { IfSome (R.remaining reader.old)
         (λ input. IsReadOf input result (R.remaining reader.new)) }
@@ -117,21 +117,21 @@ fn read_parts<R: Read>(alloc: Global, reader: &mut R) -> Result<Option<Frame>, W
     }
 }
 
-/// The next frame of the input, or `None` at the end of input. No byte after the frame is read, nor any after a wrong
-/// length.
+/// Reads the next frame, or returns `None` at the end of the input. It reads no byte after the frame, and none after an
+/// invalid length.
 ///
-/// `Short`: the input ends within the frame, and all of it is read, or the length is below 4. `TooLong`: the length is
+/// `Short`: the input ends within the frame, and all of it was read, or the length is below 4. `TooLong`: the length is
 /// above 65,532. `NoMemory`: only the four bytes of the length were read. `Device`: the reader failed within the frame,
 /// which is lost.
 pub fn read_frame<R: Read>(alloc: Global, reader: &mut R) -> Result<Option<Frame>, WireFault>
-    // What is returned, and which bytes are left.
+    // The result, and the input that is left.
     ensures exact { IfSome (R.remaining reader.old)
         (λ input. IsReadOf input result (R.remaining reader.new)) }
-    // A frame that is read stood at the front of the input.
+    // A frame that is returned was at the front of the input.
     ensures found { IfSome (R.remaining reader.old)
         (λ input. IfOk result (λ r. IfSome r (λ frame. (rest : List ℕ)
         × (input ≡ frame_encoding frame.content ++ rest) × (R.remaining reader.new ≡ Some rest)))) }
-    // A frame that stands at the front of the input is read.
+    // A frame at the front of the input is the only one that is returned.
     ensures only { IfSome (R.remaining reader.old)
         (λ input. (content rest : List ℕ) → IsContentLength (length content)
         → input ≡ frame_encoding content ++ rest → IsFrameRead content result) }

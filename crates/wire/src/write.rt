@@ -8,7 +8,7 @@ use crate::fault::WireFault;
 use crate::frame::Frame;
 use std::io::{ErrorKind, Write};
 
-// One write, retried if a signal interrupts it.
+// Makes one write, which is retried if a signal interrupts it.
 fn write_some<W: Write>(writer: &mut W, bytes: &[u8]) -> Result<usize, WireFault>
     ensures bound { WritesAtMost result bytes.now }
     ensures ok { IfOk result
@@ -29,8 +29,8 @@ fn write_some<W: Write>(writer: &mut W, bytes: &[u8]) -> Result<usize, WireFault
     Err(WireFault::Device)
 }
 
-/// Writes the bytes after what was written before, and doesn't flush. `Device`: the writer failed, or takes no more
-/// bytes. It may have written some of the first bytes, and no others.
+/// Writes bytes without a flush. `Device`: the writer failed, or accepts no more bytes. It wrote some prefix of the
+/// bytes, and nothing else.
 pub fn write_bytes<W: Write>(writer: &mut W, bytes: &[u8]) -> Result<(), WireFault>
     ensures ok { OnOk result (Appends (W.contents writer.old) (W.contents writer.new) bytes.now) }
     ensures part { OnErr result
@@ -48,8 +48,8 @@ pub fn write_bytes<W: Write>(writer: &mut W, bytes: &[u8]) -> Result<(), WireFau
     Ok(())
 }
 
-/// Writes the frame after what was written before, and doesn't flush. `Device`: the writer failed, or takes no more
-/// bytes. It may have written some of the frame's first bytes, and no others.
+/// Writes a frame without a flush. `Device`: the writer failed, or accepts no more bytes. It wrote some prefix of the
+/// frame, and nothing else.
 pub fn write_frame<W: Write>(writer: &mut W, frame: &Frame) -> Result<(), WireFault>
     ensures ok { OnOk result
         (Appends (W.contents writer.old) (W.contents writer.new) (frame_encoding frame.now.content)) }

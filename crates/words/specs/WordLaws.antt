@@ -1,4 +1,4 @@
--- A number and its bytes determine each other.
+-- A number and its encoding determine each other.
 use Rattle.std.specs.Prelude.{◌≡◌, ℕ, zero, suc, ◌+◌, ◌^◌, ◌<◌, ◌≤◌, List, [], ◌∷◌, ◌++◌, length, take, refl}
 use Rattle.std.specs.Int.{w32, from_le_bytes}
 use Rattle.std.proofs.Common.{sym, ◌∙◌, ap, arith}
@@ -36,7 +36,7 @@ word-little_number (a ∷ b ∷ c ∷ d ∷ rest) fits long =
     let is : n ≡ from_le_bytes w32 (a ∷ b ∷ c ∷ d ∷ []) = omega arith in
     le_bytes_4 (a ∷ b ∷ c ∷ d ∷ []) n refl (front_fits 4 (a ∷ b ∷ c ∷ d ∷ rest) fits) is
 
--- words at the front of equal bytes are of the same number
+-- equal byte strings that begin with words begin with the same number
 pub same_word : (m n : ℕ) (xs ys : List ℕ) → m < 2 ^ 32 → n < 2 ^ 32 → word m ++ xs ≡ word n ++ ys → m ≡ n
 same_word m n xs ys fits fits_too e =
     sym (little_number-word m xs fits) ∙ ap (λ (l : List ℕ). little_number 4 l) e ∙ little_number-word n ys fits_too

@@ -1,4 +1,4 @@
-//! Numbers at the front and at the end of byte strings, lowest byte first.
+//! Little-endian numbers at the front and at the end of byte strings.
 #![tactic(auto)]
 
 ghost use Rattle.std.specs.Prelude.{◌≡◌, ◌<◌, ◌+◌, ◌^◌, ◌++◌, ◌≤◌, length, IfSome, IfNone, OnOk, OnErr};
@@ -8,7 +8,7 @@ ghost use Rattle.words.specs.Words.{word, long_word};
 use byteorder::{ByteOrder, LittleEndian};
 use std::alloc::AllocError;
 
-/// The number in the first four bytes, and the bytes after it.
+/// Returns the number in the first four bytes and the bytes after it, or `None` if there are fewer bytes.
 pub fn take_word(bytes: &[u8]) -> Option<(u32, &[u8])>
     ensures found { IfSome result (λ r. bytes.now ≡ word r.0 ++ r.1.now) }
     ensures fits { IfSome result (λ r. r.0 < 2 ^ 32) }
@@ -21,7 +21,7 @@ pub fn take_word(bytes: &[u8]) -> Option<(u32, &[u8])>
     Some((LittleEndian::read_u32(bytes), rest))
 }
 
-/// The number in the first eight bytes, and the bytes after it.
+/// Returns the number in the first eight bytes and the bytes after it, or `None` if there are fewer bytes.
 pub fn take_long_word(bytes: &[u8]) -> Option<(u64, &[u8])>
     ensures found { IfSome result (λ r. bytes.now ≡ long_word r.0 ++ r.1.now) }
     ensures fits { IfSome result (λ r. r.0 < 2 ^ 64) }
@@ -34,7 +34,7 @@ pub fn take_long_word(bytes: &[u8]) -> Option<(u64, &[u8])>
     Some((LittleEndian::read_u64(bytes), rest))
 }
 
-/// Adds the four bytes of a number. If an allocation fails, nothing changed. It takes no memory if there is room.
+/// Appends a number in four bytes. If an allocation fails, nothing changed. It allocates nothing if there is room.
 pub fn push_word(out: &mut Vec<u8>, value: u32) -> Result<(), AllocError>
     ensures ok { OnOk result (out.new.items ≡ out.old.items ++ word value) }
     ensures err { OnErr result (out.new.items ≡ out.old.items) }
@@ -46,7 +46,7 @@ pub fn push_word(out: &mut Vec<u8>, value: u32) -> Result<(), AllocError>
     out.extend_from_slice(&encoding)
 }
 
-/// Adds the eight bytes of a number. If an allocation fails, nothing changed. It takes no memory if there is room.
+/// Appends a number in eight bytes. If an allocation fails, nothing changed. It allocates nothing if there is room.
 pub fn push_long_word(out: &mut Vec<u8>, value: u64) -> Result<(), AllocError>
     ensures ok { OnOk result (out.new.items ≡ out.old.items ++ long_word value) }
     ensures err { OnErr result (out.new.items ≡ out.old.items) }

@@ -10,12 +10,12 @@ extern "C" {
 #endif
 
 /*
- * What stands for the caller's own task in the mach_port calls (Loepere, "mach_task_self"). It is a constant and no name
- * of the space, so it can't be sent. A call for any other task is answered with KERN_INVALID_TASK.
+ * Returns the constant for the caller's own task in the mach_port calls (Loepere, "mach_task_self"). It isn't a name of
+ * the space, so it can't be sent. A call for any other task fails with KERN_INVALID_TASK.
  */
 mach_port_t mach_task_self(void);
 
-/* A new receive right, as mach_port_allocate gives one, or MACH_PORT_NULL where none can be had (Loepere,
+/* Returns a new receive right, as mach_port_allocate does, or MACH_PORT_NULL if none can be made (Loepere,
    "mach_reply_port"). */
 mach_port_t mach_reply_port(void);
 

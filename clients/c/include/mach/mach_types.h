@@ -1,4 +1,4 @@
-/* Names of ports by what they stand for, and arrays of them. */
+/* Types for names of ports, and for arrays of them. */
 
 #ifndef _MACH_MACH_TYPES_H_
 #define _MACH_MACH_TYPES_H_

@@ -1,4 +1,4 @@
-/* Codes of the stubs that the Mach Interface Generator makes, and the reply that carries one. */
+/* Codes of the stubs of the Mach Interface Generator, and the reply that contains one. */
 
 #ifndef _MACH_MIG_ERRORS_H_
 #define _MACH_MIG_ERRORS_H_
@@ -7,15 +7,15 @@
 #include <mach/message.h>
 
 #define MIG_TYPE_ERROR (-300)     /* the reply's types aren't those of the interface */
-#define MIG_REPLY_MISMATCH (-301) /* the reply isn't one to this request */
+#define MIG_REPLY_MISMATCH (-301) /* not a reply to this request */
 #define MIG_REMOTE_ERROR (-302)   /* the server found a fault */
 #define MIG_BAD_ID (-303)         /* the server knows no such request */
 #define MIG_BAD_ARGUMENTS (-304)  /* the request's types aren't those of the interface */
 #define MIG_NO_REPLY (-305)       /* no reply is to be sent */
 #define MIG_EXCEPTION (-306)
-#define MIG_ARRAY_TOO_LARGE (-307) /* an array is longer than the room for it */
+#define MIG_ARRAY_TOO_LARGE (-307) /* an array is longer than its room */
 #define MIG_SERVER_DIED (-308)     /* the server's port died */
-#define MIG_DESTROY_REQUEST (-309) /* the request's rights are to be given back, and no reply sent */
+#define MIG_DESTROY_REQUEST (-309) /* the request's rights are to be released, and no reply sent */
 
 typedef struct {
     mach_msg_header_t Head;

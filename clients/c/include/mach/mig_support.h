@@ -1,4 +1,4 @@
-/* What stubs of the Mach Interface Generator call. */
+/* Functions for stubs of the Mach Interface Generator. */
 
 #ifndef _MACH_MIG_SUPPORT_H_
 #define _MACH_MIG_SUPPORT_H_
@@ -12,26 +12,27 @@
 extern "C" {
 #endif
 
-/* The calling thread's port for replies, made at its first use and after the thread came to another space, or
-   MACH_PORT_NULL where none can be had. It goes with the thread. */
+/* Returns the calling thread's reply port, or MACH_PORT_NULL if none can be made. It is made at its first use and after
+   the thread moved to another space, and destroyed with the thread. */
 mach_port_t mig_get_reply_port(void);
 
-/* Says that the calling thread got its reply at this port, and keeps the port for the next one. */
+/* Says that the calling thread got its reply at this port, which is then kept for the next one. */
 void mig_put_reply_port(mach_port_t port);
 
-/* Gives this port back, since a reply may still come to it; the thread's next reply gets a new one. */
+/* Releases this port, because a reply may still come to it; the thread's next reply gets a new port. */
 void mig_dealloc_reply_port(mach_port_t port);
 
-/* Copies a string of which at most length - 1 bytes are taken, with a zero after it, and gives how many bytes were
-   written with that zero. A length of 0 writes nothing. */
+/* Copies a string, of which at most length - 1 bytes are used, and a zero after it. Returns the number of bytes
+   written, with the zero. A length of 0 writes nothing. */
 vm_size_t mig_strncpy(char *to, const char *from, vm_size_t length);
 
-/* Memory for arrays that are longer than a stub's own room for them, and its end. What they hold would have to be sent out
-   of line, which the server refuses with MACH_SEND_INVALID_MEMORY. KERN_RESOURCE_SHORTAGE: out of memory. */
+/* Allocates and frees memory for arrays that are longer than a stub's own room for them. Their contents would have
+   to be sent out of line, which the server refuses with MACH_SEND_INVALID_MEMORY. KERN_RESOURCE_SHORTAGE: out of
+   memory. */
 kern_return_t mig_allocate(vm_address_t *address, vm_size_t size);
 void mig_deallocate(vm_address_t address, vm_size_t size);
 
-/* Makes the reply to a request that no routine knows: to its reply port, with MIG_BAD_ID. */
+/* Makes the reply to a request that no routine handles: to its reply port, with MIG_BAD_ID. */
 void mig_reply_setup(const mach_msg_header_t *request, mach_msg_header_t *reply);
 
 #ifdef __cplusplus

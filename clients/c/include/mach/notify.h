@@ -1,6 +1,6 @@
 /*
- * Notices that the server sends (Loepere, Mach 3 Kernel Interfaces, 1992, chapter "Notifications"). Each comes by a
- * send-once right, so a notice's header says MACH_MSG_TYPE_PORT_SEND_ONCE for its local port and has no reply.
+ * Notices that the server sends (Loepere, Mach 3 Kernel Interfaces, 1992, chapter "Notifications"). Each is sent by a
+ * send-once right, so its header has MACH_MSG_TYPE_PORT_SEND_ONCE for its local port, and no reply port.
  */
 
 #ifndef _MACH_NOTIFY_H_
@@ -10,11 +10,11 @@
 #include <mach/port.h>
 
 #define MACH_NOTIFY_FIRST 64
-#define MACH_NOTIFY_PORT_DELETED (MACH_NOTIFY_FIRST + 1)   /* a name with a dead-name request was taken back */
-#define MACH_NOTIFY_MSG_ACCEPTED (MACH_NOTIFY_FIRST + 2)   /* only of Mach kernels */
+#define MACH_NOTIFY_PORT_DELETED (MACH_NOTIFY_FIRST + 1)   /* a name with a dead-name request was removed */
+#define MACH_NOTIFY_MSG_ACCEPTED (MACH_NOTIFY_FIRST + 2)   /* only supported by Mach kernels */
 #define MACH_NOTIFY_PORT_DESTROYED (MACH_NOTIFY_FIRST + 5) /* a receive right comes back instead of its port's death */
-#define MACH_NOTIFY_NO_SENDERS (MACH_NOTIFY_FIRST + 6)     /* the last send right of a port went */
-#define MACH_NOTIFY_SEND_ONCE (MACH_NOTIFY_FIRST + 7)      /* a send-once right went without a message */
+#define MACH_NOTIFY_NO_SENDERS (MACH_NOTIFY_FIRST + 6)     /* a port has no send rights any more */
+#define MACH_NOTIFY_SEND_ONCE (MACH_NOTIFY_FIRST + 7)      /* a send-once right was destroyed without a message */
 #define MACH_NOTIFY_DEAD_NAME (MACH_NOTIFY_FIRST + 8)      /* a name's port died */
 #define MACH_NOTIFY_LAST (MACH_NOTIFY_FIRST + 15)
 

@@ -1,6 +1,6 @@
 /*
- * Names of ports, kinds of rights and what calls say of them (Loepere, Mach 3 Kernel Interfaces, 1992, chapter "Port
- * Manipulation Interface").
+ * Names of ports, kinds of rights, and the status of receive rights (Loepere, Mach 3 Kernel Interfaces, 1992, chapter
+ * "Port Manipulation Interface").
  */
 
 #ifndef _MACH_PORT_H_
@@ -31,7 +31,7 @@ typedef natural_t mach_port_right_t;
 #define MACH_PORT_RIGHT_DEAD_NAME ((mach_port_right_t) 4)
 #define MACH_PORT_RIGHT_NUMBER ((mach_port_right_t) 5)
 
-/* What a name stands for: a bit for each right that it holds, and one for a dead-name request. */
+/* The type of a name: a bit for each right that it holds, and one for a dead-name request. */
 typedef natural_t mach_port_type_t;
 typedef mach_port_type_t *mach_port_type_array_t;
 
@@ -51,23 +51,23 @@ typedef mach_port_type_t *mach_port_type_array_t;
 
 typedef natural_t mach_port_urefs_t;    /* user references of a name */
 typedef integer_t mach_port_delta_t;    /* a change of user references */
-typedef natural_t mach_port_seqno_t;    /* the number that a port's next message gets */
-typedef natural_t mach_port_mscount_t;  /* how many send rights were made from a receive right */
+typedef natural_t mach_port_seqno_t;    /* the sequence number of a port's message */
+typedef natural_t mach_port_mscount_t;  /* the number of send rights that were made from a receive right */
 typedef natural_t mach_port_msgcount_t; /* messages in a queue, and its limit */
-typedef natural_t mach_port_rights_t;   /* how many rights there are */
+typedef natural_t mach_port_rights_t;   /* a number of rights */
 typedef natural_t *mach_port_seqno_array_t;
 
-/* What is known of a receive right. */
+/* The status of a receive right. */
 typedef struct mach_port_status {
-    mach_port_t mps_pset;              /* the set that the port is in, or MACH_PORT_NULL */
-    mach_port_seqno_t mps_seqno;       /* the number that its next message gets */
+    mach_port_t mps_pset;              /* the set that contains the port, or MACH_PORT_NULL */
+    mach_port_seqno_t mps_seqno;       /* the sequence number of its next message */
     mach_port_mscount_t mps_mscount;   /* its make-send count */
-    mach_port_msgcount_t mps_qlimit;   /* how many messages its queue takes */
-    mach_port_msgcount_t mps_msgcount; /* how many messages are in it */
-    mach_port_rights_t mps_sorights;   /* how many send-once rights there are */
-    boolean_t mps_srights;             /* whether there are send rights */
-    boolean_t mps_pdrequest;           /* whether there is a port-destroyed request */
-    boolean_t mps_nsrequest;           /* whether there is a no-senders request */
+    mach_port_msgcount_t mps_qlimit;   /* the limit of its queue */
+    mach_port_msgcount_t mps_msgcount; /* the number of messages in its queue */
+    mach_port_rights_t mps_sorights;   /* the number of send-once rights */
+    boolean_t mps_srights;             /* true if there are send rights */
+    boolean_t mps_pdrequest;           /* true if there is a port-destroyed request */
+    boolean_t mps_nsrequest;           /* true if there is a no-senders request */
 } mach_port_status_t;
 
 #define MACH_PORT_QLIMIT_DEFAULT ((mach_port_msgcount_t) 5)

@@ -1,6 +1,7 @@
 /*
- * Sizes and addresses in the caller's own memory, which stubs of the Mach Interface Generator use. They have as many bits
- * as the machine has, and stand in no message: numbers of messages have 32 bits everywhere (mach/port.h, mach/message.h).
+ * Sizes and addresses in the caller's own memory, for stubs of the Mach Interface Generator. They have as many bits as
+ * the machine's words, and are never in a message: numbers in messages have 32 bits everywhere (mach/port.h,
+ * mach/message.h).
  */
 
 #ifndef _MACH_STD_TYPES_H_

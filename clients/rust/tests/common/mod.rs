@@ -22,7 +22,7 @@ impl Deref for Alone {
     }
 }
 
-/// The task that `machrun` made for the tests.
+/// Returns the task that `machrun` made for the tests.
 pub fn task() -> Alone {
     let turn = TURN.lock().unwrap_or_else(PoisonError::into_inner);
     let task = Task::adopt().expect("the tests run under machrun: machrun SOCKET cargo test --offline");
@@ -34,7 +34,7 @@ pub fn is_confined() -> bool {
     std::env::var_os("MACHIPC_FD").is_some()
 }
 
-/// A name that the server doesn't choose by itself, and that no other test uses.
+/// Returns a name that the server doesn't choose by itself, and that no other test uses.
 pub fn own_name(number: u32) -> Name {
     Name(0x4000_0000 + number)
 }
@@ -44,7 +44,7 @@ pub fn assert_unused(task: &Task, name: Name) {
     assert_eq!(task.type_of(name), Err(Error::KernInvalidName));
 }
 
-/// Makes a space with a receive right, and gives a task there with that right's name. A confined task has none.
+/// Makes a space with a receive right, and returns a task there with that right's name. A confined task has none.
 pub fn other_space(task: &Task) -> Option<(Task, Name)> {
     let name = task.allocate().unwrap().forget();
     let made = task.space_create(name, Disposition::MoveReceive);

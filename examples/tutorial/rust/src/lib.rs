@@ -1,4 +1,5 @@
-//! What the programs of the tutorial share: the ids of requests, names for ports, how to ask and how to serve.
+//! What the programs of the tutorial have in common: the ids of requests, names for ports, requests to a service, and
+//! its loop.
 
 use std::thread::sleep;
 use std::time::Duration;
@@ -7,7 +8,7 @@ use machipc::{kinds, Error, Message, Name, Options, Port, Received, Task};
 
 pub type Failure = Box<dyn std::error::Error>;
 
-// Requests to the name service, and to files. A reply has the id of its request plus 100.
+// The ids of requests to the name service, and to files. A reply's id is its request's plus 100.
 pub const CHECK_IN: i32 = 1001;
 pub const LOOK_UP: i32 = 1002;
 pub const OPEN: i32 = 2001;
@@ -16,13 +17,13 @@ pub const WRITE: i32 = 2003;
 
 pub const PAUSE: Duration = Duration::from_millis(20);
 
-/// A name of our choice, the same for the same text (FNV-1a).
+/// Returns a name for a text, always the same for the same text (FNV-1a).
 pub fn name_for(text: &str) -> Name {
     let hashed = text.bytes().fold(0x811c_9dc5, |hash: u32, byte| (hash ^ u32::from(byte)).wrapping_mul(0x0100_0193));
     Name(0x4000_0000 | hashed & 0x3fff_ffff)
 }
 
-/// The task that machrun made for this program. A server that is being started again is waited for.
+/// Returns the task that machrun made for this program. It waits for a server that is being started again.
 pub fn begin() -> Result<Task, Failure> {
     loop {
         match Options::new().once(true).adopt() {
@@ -32,12 +33,12 @@ pub fn begin() -> Result<Task, Failure> {
     }
 }
 
-/// Why a request has no answer.
+/// The reason why a request has no answer.
 #[derive(Debug)]
 pub enum Refused {
-    /// It was given back without one: whoever had it ended.
+    /// The request was destroyed without an answer: the service that had it ended.
     Unanswered,
-    /// The service refused it, or the call was.
+    /// The service refused the request, or the call was refused.
     By(Error),
 }
 
@@ -75,8 +76,8 @@ pub fn ask(service: &Port, id: i32, question: Message<'_>) -> Result<Received, R
     Ok(answer)
 }
 
-/// Answers requests with what `handle` makes of each, or with the code of its refusal. Rights that it leaves in a request are
-/// given back.
+/// Answers requests with what `handle` returns for each, or with the code of its refusal. Rights that it leaves in a
+/// request are given back.
 pub fn serve(
     receive: impl Fn() -> machipc::Result<Received>,
     handle: impl Fn(&mut Received) -> machipc::Result<Message<'static>>,
@@ -96,7 +97,7 @@ pub fn serve(
     }
 }
 
-/// The text of a message's first item.
+/// Returns the text of a message's first item.
 pub fn text_of(message: &Received) -> machipc::Result<String> {
     let data = message.items().next().and_then(|item| item.ok()?.data()).ok_or(Error::MigBadArguments)?;
     data.text().map(str::to_owned).map_err(|_| Error::MigBadArguments)

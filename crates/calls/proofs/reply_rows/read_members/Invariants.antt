@@ -3,7 +3,7 @@ use Rattle.std.specs.Prelude.{All}
 use Rattle.words.specs.Words.{word}
 use Rattle.calls.proofs.reply_rows.read_members.Given as goal
 
--- what was read, with what is left, is the whole
+-- the encoding of the decoded members, followed by the rest, is the whole input
 pub record Left (whole : List ℕ) (members : List ℕ) (rest : List ℕ) : Type 0 where
   pub is : whole ≡ flat_map word members ++ rest
   pub fit : All (λ name. name < 2 ^ 32) members

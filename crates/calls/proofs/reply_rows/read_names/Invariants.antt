@@ -4,7 +4,7 @@ use Rattle.ipc_model.specs.declared.plain_reply.NamedType.{NamedType}
 use Rattle.words.specs.Words.{word}
 use Rattle.calls.proofs.reply_rows.read_names.Given as goal
 
--- what was read, with what is left, is the whole
+-- the encoding of the decoded names, followed by the rest, is the whole input
 pub record Left (whole : List ℕ) (names : List NamedType) (rest : List ℕ) : Type 0 where
   pub is : whole ≡ flat_map (λ (n : NamedType). word n.name ++ word n.bits) names ++ rest
   pub fit : All (λ (n : NamedType). (n.name < 2 ^ 32) × (n.bits < 2 ^ 32)) names

@@ -4,7 +4,7 @@ use Rattle.ipc_model.specs.effects.Effects.{release_of}
 use Rattle.ports.specs.Passed.{lives_in, seen_right}
 use Rattle.ipc_state.proofs.carried.release_rights.Given as goal
 
--- what was added so far
+-- the releases appended so far
 abbrev pub invariant-loop-right : goal.invariant-loop-right
 invariant-loop-right l =
     l.effects ≡ l.initial.effects ++ flat_map

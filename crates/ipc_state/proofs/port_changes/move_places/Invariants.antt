@@ -5,7 +5,7 @@ use Rattle.ipc_state.proofs.port_changes.move_places.Given as goal
 abbrev pub decreases-loop-place : goal.decreases-loop-place
 decreases-loop-place l = 2 ^ 64 - l.at
 
--- the places below are done
+-- the places below are updated
 abbrev pub invariant-loop-place : goal.invariant-loop-place
 invariant-loop-place l =
     (l.at ≤ 2 ^ 64)

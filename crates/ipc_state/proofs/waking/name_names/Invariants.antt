@@ -4,7 +4,7 @@ use Rattle.tracked_map.specs.Touched.{is_touched}
 use Rattle.waiting.specs.Places.{names}
 use Rattle.ipc_state.proofs.waking.name_names.Given as goal
 
--- each place is still to be done, or named
+-- each changed place is reported or still to be handled
 abbrev pub invariant-loop-place : goal.invariant-loop-place
 invariant-loop-place l =
     (number : ℕ) → is_touched number l.initial.rest ≡ true → (is_touched number l.rest ≡ true)

@@ -4,7 +4,7 @@ use Rattle.tracked_map.specs.Touched.{is_touched}
 use Rattle.waiting.specs.Places.{IsMore, names}
 use Rattle.ipc_state.proofs.waking.name_ports.Given as goal
 
--- each serial is still to be done, or its port is named
+-- each changed port is reported or still to be handled
 abbrev pub invariant-loop-serial : goal.invariant-loop-serial
 invariant-loop-serial l =
     IsMore l.initial.places l.places

@@ -8,7 +8,7 @@ use Rattle.ipc_state.proofs.waking.name_receivers.Given as goal
 abbrev pub decreases-loop-place : goal.decreases-loop-place
 decreases-loop-place l = 2 ^ 64 - l.at
 
--- the receivers below are named
+-- the receivers below are reported
 abbrev pub invariant-loop-place : goal.invariant-loop-place
 invariant-loop-place l =
     (l.at ≤ 2 ^ 64) × IsMore l.initial.places l.places

@@ -6,7 +6,7 @@ use Rattle.ipc_model.specs.store.Store.{IsClosed}
 use Rattle.slot_steps.specs.Steps.{IsClosing}
 use Rattle.journal.proofs.roll.roll_close.Goals as goal
 
--- Each clause is that of the step, in the slot of the epoch.
+-- Each clause is that of the step, in the epoch's slot.
 
 pub returns-clause-begun : goal.returns-clause-begun
 returns-clause-begun g c = λ honest.

@@ -6,7 +6,7 @@ use Rattle.ipc_model.specs.store.Store.{closed_gate, epoch_encoding}
 use Rattle.slot_steps.specs.Steps.{IsShut, IsStillClosed}
 use Rattle.journal.proofs.roll.roll_head.Goals as goal
 
--- Each clause is that of the step, in the slot of the epoch.
+-- Each clause is that of the step, in the epoch's slot.
 
 pub returns-clause-header : goal.returns-clause-header
 returns-clause-header g c = λ honest.

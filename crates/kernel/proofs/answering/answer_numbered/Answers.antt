@@ -25,7 +25,7 @@ returns-in-Err-clause-shown c =
     prefers_refused (state_of c.args.state.now.current c.args.kept.now) c.args.space c.args.numbered.now
     c.args.shown.now c.in-Err.code c.refusal.result.reply c.in-Err.ensures c.refusal.ensures.reply
 
--- it is asked for again
+-- the request repeats the last one
 
 pub returns-in_ok-again-in-Ok-Some-clause-step : goal.returns-in_ok-again-in-Ok-Some-clause-step
 returns-in_ok-again-in-Ok-Some-clause-step c =
@@ -41,7 +41,7 @@ returns-in_ok-again-in-Ok-Some-clause-shown c =
     (sym c.in-Ok-Some.ensures.1 ∙ ap option_copied c.in-Ok-Some.field-0-is)
     (ap (λ (k : NumberedReply). reply.Repeated k) c.in_ok-again-in-Ok-Some.ensures)
 
--- it is made
+-- the call is made
 
 pub returns-in_ok-keeping-in-Ok-None-clause-step : goal.returns-in_ok-keeping-in-Ok-None-clause-step
 returns-in_ok-keeping-in-Ok-None-clause-step c =

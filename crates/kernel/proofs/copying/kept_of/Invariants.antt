@@ -2,7 +2,7 @@ use Rattle.std.proofs.Common.{◌≤◌, ◌-◌, ◌^◌}
 use Rattle.kernel.specs.Copying.{AreGathered, kept_row}
 use Rattle.kernel.proofs.copying.kept_of.Given as goal
 
--- what was gathered, with the spaces that are left, is the whole
+-- the rows so far, followed by those of the remaining spaces, are all rows
 abbrev pub invariant-loop-number : goal.invariant-loop-number
 invariant-loop-number l = record {
   gathered : AreGathered (kept_row l.kept) l.state.current.spaces l.rows.items l.at;

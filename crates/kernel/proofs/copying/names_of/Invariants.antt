@@ -4,7 +4,7 @@ use Rattle.kernel.specs.Copying.{AreGathered}
 use Rattle.snapshot.specs.Rows.{named_row}
 use Rattle.kernel.proofs.copying.names_of.Given as goal
 
--- what was gathered, with the names that are left, is the whole
+-- the rows so far, followed by those of the remaining names, are all rows
 abbrev pub invariant-loop-name : goal.invariant-loop-name
 invariant-loop-name l = record {
   gathered : AreGathered named_row (names_in l.state.current l.space) l.names.items l.at;

@@ -3,7 +3,7 @@ use Rattle.kernel.specs.Copying.{AreGathered}
 use Rattle.snapshot.specs.Rows.{port_row}
 use Rattle.kernel.proofs.copying.ports_of.Given as goal
 
--- what was gathered, with the ports that are left, is the whole
+-- the rows so far, followed by those of the remaining ports, are all rows
 abbrev pub invariant-loop-serial : goal.invariant-loop-serial
 invariant-loop-serial l = AreGathered port_row l.state.current.ports l.ports.items l.at
 

@@ -3,7 +3,7 @@ use Rattle.kernel.specs.Copying.{AreGathered}
 use Rattle.snapshot.specs.Rows.{space_row}
 use Rattle.kernel.proofs.copying.spaces_of.Given as goal
 
--- what was gathered, with the spaces that are left, is the whole
+-- the rows so far, followed by those of the remaining spaces, are all rows
 abbrev pub invariant-loop-number : goal.invariant-loop-number
 invariant-loop-number l = record {
   gathered : AreGathered space_row l.state.current.spaces l.spaces.items l.at;

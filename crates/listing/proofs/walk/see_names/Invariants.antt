@@ -2,7 +2,7 @@ use Rattle.std.proofs.Common.{◌≡◌, drop}
 use Rattle.listing.specs.Walking.{names_seen}
 use Rattle.listing.proofs.walk.see_names.Given as goal
 
--- what is kept, with what is left to see, is all
+-- passing the rest from here gives the same as passing all from the start
 abbrev pub invariant-loop-named : goal.invariant-loop-named
 invariant-loop-named g l =
     names_seen g.V.Visitor.seen l.space (drop l.named-index l.names) (g.V.Visitor.view l.visitor)

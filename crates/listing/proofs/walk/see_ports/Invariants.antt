@@ -2,7 +2,7 @@ use Rattle.std.proofs.Common.{◌≡◌, drop}
 use Rattle.listing.specs.Walking.{ports_seen}
 use Rattle.listing.proofs.walk.see_ports.Given as goal
 
--- what is kept, with what is left to see, is all
+-- passing the rest from here gives the same as passing all from the start
 abbrev pub invariant-loop-port : goal.invariant-loop-port
 invariant-loop-port g l =
     ports_seen g.V.Visitor.seen (drop l.port-index l.ports) (g.V.Visitor.view l.visitor)

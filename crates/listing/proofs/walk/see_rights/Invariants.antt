@@ -2,7 +2,7 @@ use Rattle.std.proofs.Common.{◌≡◌, drop}
 use Rattle.listing.specs.Walking.{rights_seen}
 use Rattle.listing.proofs.walk.see_rights.Given as goal
 
--- what is kept, with what is left to see, is all
+-- passing the rest from here gives the same as passing all from the start
 abbrev pub invariant-loop-carried : goal.invariant-loop-carried
 invariant-loop-carried g l =
     rights_seen g.V.Visitor.seen l.queue (drop l.carried-index l.rights) (g.V.Visitor.view l.visitor)

@@ -2,7 +2,7 @@ use Rattle.std.proofs.Common.{◌≡◌, drop}
 use Rattle.listing.specs.Walking.{spaces_seen}
 use Rattle.listing.proofs.walk.see_spaces.Given as goal
 
--- what is kept, with what is left to see, is all
+-- passing the rest from here gives the same as passing all from the start
 abbrev pub invariant-loop-space : goal.invariant-loop-space
 invariant-loop-space g l =
     spaces_seen g.V.Visitor.seen (drop l.space-index l.spaces) (g.V.Visitor.view l.visitor)

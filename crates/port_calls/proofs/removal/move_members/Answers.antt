@@ -5,7 +5,7 @@ use Rattle.ipc_model.specs.declared.port.PortState.{PortState}
 use Rattle.ipc_model.specs.state.Ipc.{Ipc, with_port}
 use Rattle.port_calls.proofs.removal.move_members.Goals as goal
 
--- a change of ports leaves the names as they are
+-- a change of a port leaves the names unchanged
 port_aside : (state : Ipc) (serial : ℕ) (change : PortState → PortState)
     → (with_port state serial change).spaces ≡ state.spaces
 port_aside state serial change =

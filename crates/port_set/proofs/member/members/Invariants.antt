@@ -3,7 +3,7 @@ use Rattle.ipc_model.specs.calls.PortCalls.{names_in}
 use Rattle.ipc_model.specs.state.Ipc.{members_of}
 use Rattle.port_set.proofs.member.members.Given as goal
 
--- the names so far with those that are left
+-- the names so far, followed by the remaining ones, are all names
 abbrev pub invariant-loop-name : goal.invariant-loop-name
 invariant-loop-name l =
     l.members.items ++ map (λ m. m.0) (drop l.name-index l.name-items)

@@ -3,7 +3,7 @@ use Rattle.ipc_model.specs.messages.Items.{names_of_item}
 use Rattle.type_desc.specs.Values.{item_value}
 use Rattle.receiving.proofs.shown.add_names_in_items.Given as goal
 
--- what was added, with what is left from here, is what is to be added
+-- the names so far, followed by those of the remaining items, are all names
 abbrev pub invariant-loop-item : goal.invariant-loop-item
 invariant-loop-item l =
     l.names.items ++ flat_map names_of_item (map item_value (drop l.item-index l.items)) ≡ l.fn.names.items

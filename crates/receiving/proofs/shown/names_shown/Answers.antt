@@ -8,7 +8,7 @@ use Rattle.receiving.specs.ShownNames.{names_shown, name_in_header, names_in_ite
 use Rattle.receiving.proofs.shown.names_shown.Goals as goal
 use Rattle.receiving.proofs.shown.names_shown.Goals.{then-header+in_ok-add_names_in_body, else-header}
 
--- names that were added one after another
+-- the names that were appended one after another
 all_added : (bytes start named all : List ℕ) (parts : UsedParts) → HasUsedParts bytes parts → start ≡ []
     → named ≡ start ++ name_in_header parts.remote_disposition parts.remote
     → all ≡ named ++ names_in_items (items_if_complex parts.complex parts.body) → all ≡ names_shown bytes

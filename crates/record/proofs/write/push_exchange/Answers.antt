@@ -7,7 +7,7 @@ use Rattle.words.specs.WordLaws.{length-long_word, length-word}
 use Rattle.words.specs.Words.{word, long_word, frame_encoding}
 use Rattle.record.proofs.write.push_exchange.Goals as goal
 
--- four parts, added one after another
+-- four parts that were appended one after another
 added : (old number space call reply a b c new : List ℕ) → a ≡ old ++ number → b ≡ a ++ space → c ≡ b ++ call
     → new ≡ c ++ reply → new ≡ old ++ (number ++ (space ++ (call ++ reply)))
 added old number space call reply a b c new is_a is_b is_c is =
@@ -15,7 +15,7 @@ added old number space call reply a b c new is_a is_b is_c is =
     ∙ ap (λ (l : List ℕ). l ++ (call ++ reply)) is_b ∙ append_assoc a space (call ++ reply)
     ∙ ap (λ (l : List ℕ). l ++ (space ++ (call ++ reply))) is_a ∙ append_assoc old number (space ++ (call ++ reply))
 
--- what holds anyway holds at an error
+-- a fact holds in case of an error too
 at_error : {T E P : Type 0} (result : Result T E) → P → OnErr result P
 at_error (Ok x) holds = tt
 at_error (Err e) holds = holds

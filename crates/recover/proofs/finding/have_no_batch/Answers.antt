@@ -4,7 +4,7 @@ use Rattle.std.proofs.lemmas.Result.{err_from_is_err_and}
 use Rattle.recover.proofs.Faults.{counts_device, counts_ok, counts_same}
 use Rattle.recover.proofs.finding.have_no_batch.Goals as goal
 
--- refused, so nothing is claimed of a new store
+-- The store is refused, so the clause about a new store holds trivially.
 pub returns-then-branch-clause-new : goal.returns-then-branch-clause-new
 returns-then-branch-clause-new g c = λ honest. tt
 

@@ -30,7 +30,7 @@ returns-clause-any_moment g c = λ honest synced.
     (c.in_ok-roll_head.ensures.synced honest) is (c.roll_head.ensures.any_moment honest shut)
     (c.roll_open.ensures.any_moment honest))
 
--- the bytes of a slot that was written three times are those of the last
+-- a slot that was written three times has the bytes of the last write
 made_last : (slot : Slot) (old closed headed : Slots) (x y z : List ℕ) → closed ≡ with_slot old slot x
     → headed ≡ with_slot closed slot y → with_slot headed slot z ≡ with_slot old slot z
 made_last slot old closed headed x y z first second =

@@ -6,7 +6,7 @@ use Rattle.recover.proofs.Joined.{end_kept, end_same}
 use Rattle.recover.proofs.Upgraded.{current_says, image_made_same, segment_made_same, upgraded_at_rest, upgraded_inside, upgraded_kept, upgraded_same, upgrades}
 use Rattle.recover.proofs.opening.end_store.Goals as goal
 
--- nothing is to be upgraded
+-- no upgrade
 
 pub returns-in_err-kernel-clause-any_moment : goal.returns-in_err-kernel-clause-any_moment
 returns-in_err-kernel-clause-any_moment g c = λ honest gates.
@@ -31,7 +31,7 @@ returns-in_default-clause-kept g c = λ honest.
     (current_says old c.args.kernel c.args.segment c.args.end c.args.upgrade read c.in_default.is)
     (c.in_ok-kernel.ensures.rest honest read.at_rest) (c.in_ok-kernel.ensures.ended honest)
 
--- the next segment is made
+-- the next segment is created
 
 pub returns-in_err-kernel-2-clause-any_moment : goal.returns-in_err-kernel-2-clause-any_moment
 returns-in_err-kernel-2-clause-any_moment g c = λ honest gates.
@@ -47,7 +47,7 @@ returns-in_err-kernel-2-clause-any_moment g c = λ honest gates.
     c.in-Some.is in
     segment_made_same old mid e state count end image u gates (c.make_segment-next.ensures.any_moment honest)
 
--- and its image
+-- the next image is written
 
 pub returns-in_err-kernel-3-clause-any_moment : goal.returns-in_err-kernel-3-clause-any_moment
 returns-in_err-kernel-3-clause-any_moment g c = λ honest gates.
@@ -68,7 +68,7 @@ returns-in_err-kernel-3-clause-any_moment g c = λ honest gates.
     let writes = c.write_after.ensures.any_moment honest in
     image_made_same old mid written e state count end image u gates time made synced writes
 
--- that segment is ended
+-- the next segment is ended
 
 pub end_after-requires-2 : goal.end_after-requires-2
 end_after-requires-2 g c = λ honest.

@@ -38,7 +38,7 @@ returns-in_err-kernel-clause-failures g c =
     let p = err_from_is_err_and c.from_residual.result c.from_residual.ensures.1 in
     counts_passed _ _ _ c.from_residual.result (p.1 ∙ ap Err p.2) c.in_err-kernel.ensures.failures
 
--- no memory for the image of an upgrade
+-- out of memory for the image of an upgrade
 
 pub returns-in_err-kernel-2-clause-any_moment : goal.returns-in_err-kernel-2-clause-any_moment
 returns-in_err-kernel-2-clause-any_moment g c =

@@ -97,7 +97,7 @@ returns-in_err-kernel-clause-failures g c =
     counts_then _ _ _ c.from_residual-in_err-kernel.result c.in_ok-base.ensures.failures.quiet
     (counts_passed _ _ _ c.from_residual-in_err-kernel.result (p.1 ∙ ap Err p.2) c.in_err-kernel.ensures.failures)
 
--- no memory for the image of an upgrade
+-- out of memory for the image of an upgrade
 
 pub returns-in_err-kernel-2-clause-any_moment : goal.returns-in_err-kernel-2-clause-any_moment
 returns-in_err-kernel-2-clause-any_moment g c = λ honest gates.

@@ -25,7 +25,7 @@ returns-in_err-now-clause-damaged g c = λ honest reported.
     (subst (λ l. IsNothing l (place_of c.loop-now.reader)) same
     (c.next-next.ensures.damaged honest (cc (p.1, p.2, reported, c.in_err-now.ensures.err))))
 
--- all was replayed
+-- all records were replayed
 pub returns-in_default-clause-state : goal.returns-in_default-clause-state
 returns-in_default-clause-state g c = λ honest.
     let inv = c.loop-now.invariant in

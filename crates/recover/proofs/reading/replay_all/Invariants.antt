@@ -7,7 +7,7 @@ use Rattle.journal.specs.Windows.{IsOver}
 use Rattle.recover.proofs.Streams.{IsLeft}
 use Rattle.recover.proofs.reading.replay_all.Given as goal
 
--- what is left to be replayed is what was to be replayed, and the disk is as it was
+-- the remaining records lead to the same result as all records, and the disk is unchanged
 abbrev pub invariant-loop-now : goal.invariant-loop-now
 invariant-loop-now g l = record {
   left : g.D.Disk.honest → IsLeft l.fn.version (slot_of (g.D.Disk.view l.fn.disk).seen l.fn.slot) (place_of l.fn.reader)

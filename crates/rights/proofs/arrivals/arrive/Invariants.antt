@@ -8,7 +8,7 @@ use Rattle.rights.proofs.arrivals.arrive.Given as goal
 abbrev pub decreases-loop-right : goal.decreases-loop-right
 decreases-loop-right l = length l.rest
 
--- some have arrived, and the rest is still to arrive
+-- some rights have arrived, and the rest has not
 abbrev pub invariant-loop-right : goal.invariant-loop-right
 invariant-loop-right l =
     OnTheWay (names_in l.fn.state.current l.space)

@@ -4,7 +4,7 @@ use Rattle.script.specs.declared.text.Line.{Line}
 use Rattle.script.proofs.ScriptsAgain.{after_lines}
 use Rattle.script.proofs.text.read_script.Given as goal
 
--- what was read, with what is left
+-- the lines so far, followed by those of the rest, are all lines
 pub record Left (text : List ℕ) (number : ℕ) (lines : List Line) (rest : List ℕ) : Type 0 where
   pub is : after_lines lines (lines_read (number + 1) (lines_of rest)) ≡ script_read text
   pub in_range : number + length rest ≤ length text

@@ -3,7 +3,7 @@ use Rattle.ipc_model.specs.messages.Items.{names_of_item}
 use Rattle.type_desc.specs.Values.{item_value}
 use Rattle.sending.proofs.cited.push_names_of.Given as goal
 
--- what was added, and what is left to add from here, is all that is to be added
+-- the names so far, followed by the remaining ones, are all names
 abbrev pub invariant-loop-index : goal.invariant-loop-index
 invariant-loop-index l =
     l.names.items ++ drop l.index (names_of_item (item_value l.item)) ≡ l.fn.names.items

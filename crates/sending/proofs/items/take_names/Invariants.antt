@@ -5,7 +5,7 @@ use Rattle.sending.specs.SoFar.{so_far}
 use Rattle.type_desc.specs.Values.{item_value}
 use Rattle.sending.proofs.items.take_names.Given as goal
 
--- what is left to take from here is what was to be taken
+-- taking the remaining names from here gives the same as taking all from the start
 abbrev pub invariant-loop-index : goal.invariant-loop-index
 invariant-loop-index l =
     (take_rights l.space l.disposition (names_of_item (item_value l.item))

@@ -4,7 +4,7 @@ use Rattle.relay.specs.Relaying.{Side, side}
 use Rattle.shell.specs.Turns.{Talk}
 use Rattle.shell.proofs.talk.converse.Given as goal
 
--- some lines were read and done
+-- some lines were read and handled
 pub record Talked (own peer : Side) (number : ℕ) (well : Bool) (own_now peer_now : Side) (is_prompting : Bool)
     (errors errors_now : Option (List ℕ)) : Type 0 where
   pub lines : Talk own peer number well own_now peer_now

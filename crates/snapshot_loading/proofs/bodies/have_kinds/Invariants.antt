@@ -3,7 +3,7 @@ use Rattle.snapshot_loading.specs.Bodies.{HasKinds, carried_kind}
 use Rattle.type_desc.specs.Values.{item_value}
 use Rattle.snapshot_loading.proofs.bodies.have_kinds.Given as goal
 
--- the rest is right exactly where all is
+-- the rest passes exactly if the whole does
 abbrev pub invariant-loop-item : goal.invariant-loop-item
 invariant-loop-item l =
     HasKinds (map item_value l.fn.items) (map carried_kind l.fn.rights) ↔ HasKinds

@@ -3,7 +3,7 @@ use Rattle.std.specs.FinMap.{get}
 use Rattle.snapshot_loading.specs.Climbing.{twice}
 use Rattle.snapshot_loading.proofs.climbing.doubled.Given as goal
 
--- the hops of the ports below
+-- the doubled hops of the ports below
 abbrev pub invariant-loop-serial : goal.invariant-loop-serial
 invariant-loop-serial l = (q : ℕ) → get l.farther q ≡ cond (nat_lt q l.at) (twice (get l.up) q) None
 

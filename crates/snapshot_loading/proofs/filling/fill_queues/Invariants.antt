@@ -4,7 +4,7 @@ use Rattle.snapshot_loading.specs.FillLaws.{AreAlike}
 use Rattle.snapshot_loading.specs.Linked.{is_linked_row, looks_of}
 use Rattle.snapshot_loading.proofs.filling.fill_queues.Given as goal
 
--- what is left to be done from here is what was to be done
+-- filling the rest from here gives the same as filling all from the start
 abbrev pub invariant-loop-row : goal.invariant-loop-row
 invariant-loop-row l = record {
   left : filled_all l.rest l.state.current ≡ filled_all l.fn.rows l.fn.state.current;

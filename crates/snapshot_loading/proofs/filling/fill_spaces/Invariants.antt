@@ -3,7 +3,7 @@ use Rattle.snapshot_loading.specs.Filling.{spaced_all}
 use Rattle.snapshot_loading.specs.FillLaws.{MaySpace}
 use Rattle.snapshot_loading.proofs.filling.fill_spaces.Given as goal
 
--- what is left to be done from here is what was to be done
+-- filling the rest from here gives the same as filling all from the start
 abbrev pub invariant-loop-row : goal.invariant-loop-row
 invariant-loop-row l =
     record {

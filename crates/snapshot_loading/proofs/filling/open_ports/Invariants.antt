@@ -3,7 +3,7 @@ use Rattle.snapshot_loading.specs.Filling.{opened_all}
 use Rattle.snapshot_loading.specs.FillLaws.{MayOpen}
 use Rattle.snapshot_loading.proofs.filling.open_ports.Given as goal
 
--- what is left to be done from here is what was to be done
+-- adding the rest from here gives the same as adding all from the start
 abbrev pub invariant-loop-row : goal.invariant-loop-row
 invariant-loop-row l =
     record {

@@ -5,7 +5,7 @@ use Rattle.snapshot_loading.specs.FillLaws.{AreAlike}
 use Rattle.snapshot_loading.specs.Linked.{is_linked_message, looks_of}
 use Rattle.snapshot_loading.proofs.filling.queue_messages.Given as goal
 
--- what is left to be done from here is what was to be done
+-- appending the rest from here gives the same as appending all from the start
 abbrev pub invariant-loop-message : goal.invariant-loop-message
 invariant-loop-message l = record {
   left : queued_all l.serial l.rest l.state.current ≡ queued_all l.serial l.fn.messages l.fn.state.current;

@@ -3,7 +3,7 @@ use Rattle.std.specs.List.{list_all}
 use Rattle.snapshot_loading.specs.Linked.{is_linked_space, looks_of}
 use Rattle.snapshot_loading.proofs.linking.are_linked_spaces.Given as goal
 
--- what is left passes exactly where all does
+-- the rest passes exactly if the whole does
 abbrev pub invariant-loop-row : goal.invariant-loop-row
 invariant-loop-row l =
     list_all (is_linked_space (looks_of l.state.current)) l.rest

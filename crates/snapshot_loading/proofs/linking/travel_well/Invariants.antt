@@ -3,7 +3,7 @@ use Rattle.std.specs.List.{list_all}
 use Rattle.snapshot_loading.specs.Linked.{looks_of, travels_well}
 use Rattle.snapshot_loading.proofs.linking.travel_well.Given as goal
 
--- what is left passes exactly where all does
+-- the rest passes exactly if the whole does
 abbrev pub invariant-loop-right : goal.invariant-loop-right
 invariant-loop-right l =
     list_all (travels_well (looks_of l.state.current)) l.rest

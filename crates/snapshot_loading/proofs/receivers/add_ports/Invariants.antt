@@ -2,7 +2,7 @@ use Rattle.std.proofs.Common.{◌≡◌, ◌++◌, flat_map, length}
 use Rattle.snapshot_loading.specs.Receivers.{received_at}
 use Rattle.snapshot_loading.proofs.receivers.add_ports.Given as goal
 
--- what was added, with what is left, is the whole
+-- the ports so far, followed by those of the rest, are all ports
 abbrev pub invariant-loop-row : goal.invariant-loop-row
 invariant-loop-row l = l.found.items ++ flat_map received_at l.rest ≡ l.fn.found.items ++ flat_map received_at l.fn.rows
 

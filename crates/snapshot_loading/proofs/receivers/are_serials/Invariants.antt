@@ -2,7 +2,7 @@ use Rattle.std.proofs.Common.{◌≡◌, ◌↔◌, length, map}
 use Rattle.snapshot.specs.Rows.{serial_of}
 use Rattle.snapshot_loading.proofs.receivers.are_serials.Given as goal
 
--- what is left is the same exactly where all is
+-- the rest is equal exactly if the whole is
 abbrev pub invariant-loop-serial : goal.invariant-loop-serial
 invariant-loop-serial l = (l.fn.serials ≡ map serial_of l.fn.ports) ↔ (l.rest ≡ map serial_of l.left)
 

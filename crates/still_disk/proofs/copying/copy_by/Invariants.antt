@@ -3,7 +3,7 @@ use Rattle.std.specs.Prelude.{◌⊎◌}
 use Rattle.still_disk.specs.Live.{HasChanged}
 use Rattle.still_disk.proofs.copying.copy_by.Given as goal
 
--- time went on, no call failed, and at each try something had changed
+-- time passed, no call failed, and a front had changed at each attempt
 abbrev pub invariant-loop : goal.invariant-loop
 invariant-loop g l = record {
   later : g.S.LiveSlots.honest → g.S.LiveSlots.later (g.S.LiveSlots.now l.fn.live) (g.S.LiveSlots.now l.live);

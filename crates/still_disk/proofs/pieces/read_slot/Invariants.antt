@@ -4,7 +4,7 @@ use Rattle.disk.specs.Slots.{slot_of}
 use Rattle.still_disk.specs.Live.{Copied}
 use Rattle.still_disk.proofs.pieces.read_slot.Given as goal
 
--- what was read is a copy so far
+-- the bytes read so far are the beginning of a copy
 abbrev pub invariant-loop-bytes : goal.invariant-loop-bytes
 invariant-loop-bytes g l = record {
   copied : g.S.LiveSlots.honest → Copied g.S.LiveSlots.later

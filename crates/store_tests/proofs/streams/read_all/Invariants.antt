@@ -4,7 +4,7 @@ use Rattle.journal.specs.Reading.{MAX_RECORDS}
 use Rattle.journal.specs.Windows.{IsOver}
 use Rattle.store_tests.proofs.streams.read_all.Given as goal
 
--- the reader looks at the disk's slot
+-- the reader's window is over the disk's slot
 abbrev pub invariant-loop-records : goal.invariant-loop-records
 invariant-loop-records g l =
     g.D.Disk.honest → IsOver (slot_of (g.D.Disk.view l.disk).seen l.reader.window.slot) l.reader.window

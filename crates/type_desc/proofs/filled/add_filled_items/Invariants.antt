@@ -1,4 +1,4 @@
--- What was added, with the filled items of the rest, is all.
+-- The bytes appended so far, followed by the filled items of the rest, are the whole result.
 use Rattle.std.proofs.Common.{◌≡◌, length}
 use Rattle.ipc_model.specs.messages.Items.{items_of}
 use Rattle.type_desc.specs.Adding.{Keeps}

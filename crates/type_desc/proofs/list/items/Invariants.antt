@@ -1,4 +1,4 @@
--- The items of what was read, with those of the rest, are all.
+-- The items read so far, followed by those of the rest, are all items.
 use Rattle.std.proofs.Common.{◌≡◌, map, length}
 use Rattle.ipc_model.specs.messages.Items.{items_of}
 use Rattle.type_desc.specs.Reading.{with_front}

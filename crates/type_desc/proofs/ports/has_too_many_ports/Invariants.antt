@@ -1,4 +1,4 @@
--- What was counted of the items so far.
+-- The number of ports in the items so far.
 use Rattle.std.proofs.Common.{◌≡◌, ◌+◌, map, take}
 use Rattle.ipc_model.specs.messages.Sending.{ports_in}
 use Rattle.type_desc.specs.Values.{item_value}

@@ -1,4 +1,4 @@
--- The items so far were added.
+-- The items so far are appended.
 use Rattle.std.proofs.Common.{◌≡◌, ◌++◌, map, take}
 use Rattle.ipc_model.specs.messages.Items.{items_encoding, as_stored}
 use Rattle.type_desc.specs.Values.{item_value}

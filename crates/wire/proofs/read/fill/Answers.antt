@@ -6,7 +6,7 @@ use borrow.Rule.Slice.PartMut.{put_mid, post_of}
 use lib.Seq.{take-add, take-append-le}
 use Rattle.wire.proofs.read.fill.Goals as goal
 
--- the front of a buffer, and what was put after it
+-- bytes put after the front of a buffer leave the front as it was
 take_split : (a b : ℕ) (old new : List ℕ) → a ≤ b → take a new ≡ take a old
     → take a old ++ slice_range new a b ≡ take b new
 take_split a b old new h front =

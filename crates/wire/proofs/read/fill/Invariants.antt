@@ -1,4 +1,4 @@
--- What is filled so far is what was consumed.
+-- The bytes filled so far are the bytes consumed.
 use Rattle.std.proofs.Common.{length, ◌-◌, ◌≡◌, ◌≤◌, take}
 use Rattle.std.specs.Io.KnownBytes.{Consumes}
 use Rattle.wire.proofs.read.fill.Given as goal

@@ -1,4 +1,4 @@
--- A read that failed consumes nothing, and the buffer keeps its length.
+-- A failed read consumes nothing, and the buffer keeps its length.
 use Rattle.std.proofs.Common.{◌≡◌, length}
 use Rattle.std.specs.Io.KnownBytes.{Keeps}
 use Rattle.wire.proofs.read.read_some.Given as goal

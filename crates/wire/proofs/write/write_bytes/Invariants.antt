@@ -1,4 +1,4 @@
--- What is gone from the rest was appended.
+-- The bytes that are no longer in the rest were appended.
 use Rattle.std.proofs.Common.{◌≡◌, List, ℕ, ◌++◌, length}
 use Rattle.std.specs.Io.KnownBytes.{Appends}
 use Rattle.wire.proofs.write.write_bytes.Given as goal

@@ -1,4 +1,4 @@
--- The first bytes of the length word or of the content are first bytes of the frame.
+-- A prefix of the length word, or the length word with a prefix of the content, is a prefix of the frame.
 use Rattle.std.proofs.Common.{◌≡◌, List, ℕ, ◌++◌, Option, Result, Ok, Err, sym, ap, ◌∙◌, append_assoc, length}
 use Rattle.std.specs.Prelude.{OnErr}
 use Rattle.std.specs.Io.KnownBytes.{Appends}

@@ -1,4 +1,4 @@
--- A write that failed appends nothing.
+-- A failed write appends nothing.
 use Rattle.std.specs.Io.KnownBytes.{Keeps}
 use Rattle.wire.proofs.write.write_some.Given as goal
 

@@ -1,7 +1,8 @@
-//! files FOLDER: a service of files. Who opens one gets a right to a port, by which it is read and written.
+//! files FOLDER: a service of files. To open a file is to get a right to a port that reads and writes it.
 //!
-//! The ports outlive this program: when it was killed and started again in its space, the rights that clients have lead to
-//! the same files. A file's port has a name that is made of the file's, so nothing has to be remembered but the folder.
+//! The ports outlive this program: if it is killed and started again in its space, the rights that clients have lead to
+//! the same files. The name of a file's port is computed from the file's name, so the folder is all that the service
+//! has to know.
 
 use std::fs;
 use std::path::{Path, PathBuf};
@@ -22,7 +23,7 @@ fn name_of(file: &Path) -> String {
 }
 
 impl Files {
-    /// Makes a port or a set under this name, unless it is there.
+    /// Makes a port or a set with this name, unless it exists.
     fn make(&self, kind: Kind, name: Name) -> Result<()> {
         match self.task.allocate_name(kind, name) {
             Err(Error::KernNameExists) => Ok(()),
@@ -35,7 +36,7 @@ impl Files {
         Ok(entries.flatten().map(|entry| entry.path()).collect())
     }
 
-    /// The port of a file, which belongs to the set from which this program receives.
+    /// Returns the port of a file. It is a member of the set from which this program receives.
     fn port_of(&self, file: &Path) -> Result<Name> {
         let port = name_for(&name_of(file));
         self.make(Kind::Receive, port)?;
@@ -43,7 +44,7 @@ impl Files {
         Ok(port)
     }
 
-    /// The file whose port this is.
+    /// Returns the file that belongs to a port.
     fn file_at(&self, port: Name) -> Result<PathBuf> {
         self.all()?.into_iter().find(|file| name_for(&name_of(file)) == port).ok_or(Error::KernInvalidName)
     }
@@ -80,7 +81,7 @@ impl Files {
         Ok(Message::new(READ + 100).bytes(&text))
     }
 
-    /// A file is the old one or the new one, whatever is killed.
+    /// Replaces a file's text. The file is the old one or the new one, whatever is killed.
     fn write(&self, request: &Received) -> Result<Message<'static>> {
         let (file, new) = (self.file_at(request.port())?, self.folder.with_extension("new"));
         let written = fs::write(&new, text_of(request)?).and_then(|()| fs::rename(&new, file));

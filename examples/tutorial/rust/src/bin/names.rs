@@ -1,7 +1,7 @@
-//! A name service: services check in by a name, and clients look them up.
+//! A name service: services check in under a name, and clients look them up.
 //!
-//! The space is its table: a service's send right has a name that is made of the service's. So a service that checked in is
-//! known still after the name service was killed and started again.
+//! The space is its table: the name of a service's send right is computed from the service's name. So a service that
+//! checked in is still known after the name service was killed and started again.
 
 use machipc::{Disposition, Error, Kind, Message, Name, Received, Result, Task};
 use tutorial::{begin, name_for, serve, text_of, Failure, CHECK_IN, LOOK_UP};

@@ -1,4 +1,4 @@
-//! reader SECONDS: reads the file that the writer lets it find. What it reads never grows less.
+//! reader SECONDS: reads the writer's file again and again. The number in it may never become smaller.
 
 use std::thread::sleep;
 use std::time::{Duration, Instant};
@@ -11,7 +11,7 @@ fn look_up(names: &Port) -> Result<SendRight, Refused> {
     Ok(found.take_rights().pop().ok_or(Error::MigReplyMismatch)?.into_send()?)
 }
 
-/// The number in the file, of which the right is looked up first.
+/// Returns the number in the file, and looks the file's right up first if it has none yet.
 fn read(names: &Port, diary: &mut Option<SendRight>) -> Result<u32, Refused> {
     if diary.is_none() {
         *diary = Some(look_up(names)?);

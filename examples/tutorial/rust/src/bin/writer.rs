@@ -1,6 +1,7 @@
-//! writer SECONDS: writes numbers to a file, reads each back, and lets others find the file.
+//! writer SECONDS: writes numbers to a file, reads each one back, and lets others find the file.
 //!
-//! It checks the file's right in at the name service. So a reader gets this file, and no way to the service of files.
+//! It checks the file's right in at the name service. So a reader gets a right to this file, and none to the service of
+//! files.
 
 use std::thread::sleep;
 use std::time::{Duration, Instant};
@@ -8,7 +9,8 @@ use std::time::{Duration, Instant};
 use machipc::{Error, Message, Port, Received, SendRight};
 use tutorial::{ask, begin, text_of, Failure, Refused, CHECK_IN, LOOK_UP, OPEN, PAUSE, READ, WRITE};
 
-/// Asks until there is an answer. The requests here may be made twice: to write the same text again changes nothing.
+/// Repeats a request until it is answered. The requests here may be made twice: writing the same text again changes
+/// nothing.
 fn ask_again<'a>(
     again: &mut u32,
     service: &Port,

@@ -6,7 +6,7 @@ use Rattle.disk.specs.Slots.{slot_of, with_slot}
 use Rattle.slot_steps.specs.Steps.{IsClosing, IsShut, image_slot}
 use Rattle.checkpoint.proofs.writing.Image.close.Goals as goal
 
--- Each clause is that of the step, in the slot of the epoch.
+-- Each clause is that of the step, in the epoch's slot.
 
 pub returns-clause-cleared : goal.returns-clause-cleared
 returns-clause-cleared g c = λ honest.

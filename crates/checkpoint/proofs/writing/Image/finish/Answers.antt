@@ -7,7 +7,7 @@ use Rattle.slot_steps.specs.Steps.{IsShut, image_slot}
 use Rattle.checkpoint.proofs.Along.{along}
 use Rattle.checkpoint.proofs.writing.Image.finish.Goals as goal
 
--- Each clause is that of the step, in the slot of the epoch.
+-- Each clause is that of the step, in the epoch's slot.
 
 pub returns-clause-made : goal.returns-clause-made
 returns-clause-made g c = λ honest.

@@ -21,7 +21,7 @@ pub returns-in_err-push_piece-clause-shut : goal.returns-in_err-push_piece-claus
 returns-in_err-push_piece-clause-shut g c =
     λ honest shut. none_at_fault _ _ c.from_residual.result c.from_residual.ensures.1
 
--- Each clause is that of the step, in the slot of the epoch.
+-- Each clause is that of the step, in the epoch's slot.
 
 pub returns-in_err-push_piece-clause-any_moment : goal.returns-in_err-push_piece-clause-any_moment
 returns-in_err-push_piece-clause-any_moment g c = λ honest.

@@ -7,7 +7,7 @@ use Rattle.ipc_state.proofs.state.IpcState.members.Given as goal
 abbrev pub decreases-loop-name : goal.decreases-loop-name
 decreases-loop-name l = 2 ^ 33 - l.from
 
--- what was gathered, with the members that are left, is the whole
+-- the members so far, followed by the remaining ones, are all members
 abbrev pub invariant-loop-name : goal.invariant-loop-name
 invariant-loop-name l = record {
   gathered : l.members.items ++ members_from l.self.current l.set (names_in l.self.current l.space) l.from

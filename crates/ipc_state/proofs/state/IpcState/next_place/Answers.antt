@@ -5,7 +5,7 @@ use Rattle.spaces.specs.Passed.{Numbers, IsNext}
 use Rattle.spaces.specs.Looking.{place}
 use Rattle.ipc_state.proofs.state.IpcState.next_place.Goals as goal
 
--- the numbers that were passed are places
+-- the numbers that were skipped are places
 at_places : (members : Numbers) (number from number_is from_is : ℕ) (found : Option ℕ) → number ≡ number_is
     → from ≡ from_is → IsNext members number from found → IsNext members number_is from_is found
 at_places members number from number_is from_is found first second is =

@@ -6,7 +6,7 @@ use Rattle.ipc_state.proofs.state.IpcState.remove_space.Given as goal
 abbrev pub decreases-loop-name : goal.decreases-loop-name
 decreases-loop-name l = 2 ^ 33 - l.at
 
--- the names below are gone, and besides the space's names nothing has changed
+-- the names below are removed, and nothing besides the space's names has changed
 abbrev pub invariant-loop-name : goal.invariant-loop-name
 invariant-loop-name l = record {
   gone : (q : ℕ) → q < l.at → get (names_in l.self.current l.number) q ≡ None;

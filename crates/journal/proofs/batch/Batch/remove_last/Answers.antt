@@ -5,7 +5,7 @@ use Rattle.journal.specs.Batch.{BatchValue, IsWhole, content_of, padded, value_o
 use Rattle.journal.proofs.Whole.{counted_some, cut_encoding, value_back, whole_long, whole_of, whole_padded}
 use Rattle.journal.proofs.batch.Batch.remove_last.Goals as goal
 
--- the bytes are a batch of some records
+-- the bytes are a batch with at least one record
 record IsBatch (count : ℕ) (encoding : List ℕ) (now : BatchValue) : Type 0 where
   pub whole : IsWhole count encoding
   pub value : value_of count encoding ≡ now
@@ -47,7 +47,7 @@ write_header-requires c =
       length-take (length encoding - 1 - c.args.size) encoding,
     )
 
--- what is left of it
+-- the batch after the removal
 left : (count seen size : ℕ) (encoding cut new : List ℕ) (now : BatchValue) → IsBatch count encoding now
     → seen ≡ now.count → size ≤ length now.body → cut ≡ take (length encoding - 1 - size) encoding ++ closed_gate ∷ []
     → new ≡ word (seen - 1) ++ (long_word (length cut - 13) ++ drop 12 cut)

@@ -7,7 +7,7 @@ use Rattle.journal.proofs.Pieces.{window_on}
 use Rattle.journal.proofs.Steps.{taken, last, no_batch_at, no_record_at}
 use Rattle.journal.proofs.read.RecordReader.take_next.Goals as goal
 
--- no batch goes on or begins here
+-- the bytes neither continue nor begin a batch
 pub returns-in_err-left-clause-damaged : goal.returns-in_err-left-clause-damaged
 returns-in_err-left-clause-damaged c = λ reported bytes over full.
     let inside = c.self.inside in
@@ -30,7 +30,7 @@ returns-in_default-clause-last c = λ bytes over full.
     (subst (λ (r : ReaderValue). IsFull r.window) (sym c.self.view_is) full)
     refl c.front-front.ensures c.self.invariant (rw c.in_default.is at c.in_ok-left.ensures.ended))
 
--- no record of the next number stands here
+-- the bytes contain no record with the next number
 pub returns-in_err-entry-clause-damaged : goal.returns-in_err-entry-clause-damaged
 returns-in_err-entry-clause-damaged c = λ reported bytes over full.
     let inside = c.self.inside in

@@ -7,7 +7,7 @@ use Rattle.journal.specs.Batch.{content_of}
 use Rattle.journal.specs.Storing.{IsMidStore}
 use Rattle.journal.proofs.segment.Segment.append.Goals as goal
 
--- Each clause is that of the step, in the slot of the epoch and with the encoding of the batch.
+-- Each clause is that of the step, in the epoch's slot and with the batch's encoding.
 
 pub returns-in_err-store-clause-any_moment : goal.returns-in_err-store-clause-any_moment
 returns-in_err-store-clause-any_moment g c = λ honest.

@@ -2,7 +2,6 @@ use Rattle.std.proofs.Common.{ap, sym, subst}
 use Rattle.port_indexes.specs.Counts.{ArePositive, with_positive}
 use Rattle.port_indexes.proofs.counts.PairCounts.set.Goals as goal
 
--- src/counts.rt:108:23
 pub invariant_of-self : goal.invariant_of-self
 invariant_of-self c = (
   subst ArePositive (sym (ap (λ (t : _). t.before) (c.in-Ok.ensures.ok))) c.self.invariant.0,

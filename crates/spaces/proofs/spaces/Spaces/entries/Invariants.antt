@@ -4,7 +4,7 @@ use Rattle.port_space.specs.Walking.{entries_from}
 use Rattle.spaces.specs.Reading.{names_of}
 use Rattle.spaces.proofs.spaces.Spaces.entries.Given as goal
 
--- what was gathered, with the entries that are left, is the whole
+-- the entries so far, followed by the remaining ones, are all entries
 abbrev pub invariant-loop-name : goal.invariant-loop-name
 invariant-loop-name l = record {
   gathered : l.entries.items ++ entries_from (names_of l.self.current l.space) l.at

@@ -1,7 +1,7 @@
 use Rattle.std.proofs.Common.{rules}
 use Rattle.store_half.proofs.store_half.StoreHalf.roll_head.Goals as goal
 
--- Field by field, since a search for the whole record is near its limits.
+-- Field by field, because the search for the whole record is near its limits.
 pub invariant_of-self-2 : goal.invariant_of-self-2
 invariant_of-self-2 g c = (
   record { steps = search rules; before = search rules; after = search rules; images = search rules },

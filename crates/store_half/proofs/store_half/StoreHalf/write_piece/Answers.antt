@@ -1,7 +1,7 @@
 use Rattle.std.proofs.Common.{rules}
 use Rattle.store_half.proofs.store_half.StoreHalf.write_piece.Goals as goal
 
--- Field by field, since a search for the whole record is near its limits.
+-- Field by field, because the search for the whole record is near its limits.
 pub invariant_of-self-else-is_err : goal.invariant_of-self-else-is_err
 invariant_of-self-else-is_err g c = (
   record { steps = search rules; before = search rules; after = search rules; images = search rules },
