@@ -187,11 +187,7 @@ impl<L: Founding> KernelKeeper<L> {
     /// Settles the session of a task that is confined to its space since so many records were made. If the space was
     /// destroyed after these, the session learns all of the history and is detached, whether or not there is a new space
     /// under the number.
-    fn settle(
-        &mut self,
-        session: Session<L>,
-        since: u64,
-    ) -> (Session<L>, Result<(), SessionFault>)
+    fn settle(&mut self, session: Session<L>, since: u64) -> (Session<L>, Result<(), SessionFault>)
         ensures same { self.new ≡ self.old }
         ensures settled { OnOk result.1 (SettlesExactly L.base since (entries_in self.old.core) session result.0) }
         ensures err { OnErr result.1 (Did L.base session looked result.0) }

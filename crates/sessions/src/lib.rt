@@ -19,8 +19,8 @@ pub use closing::{Book, Unmatched, close};
 pub use gate::{Gate, LoopStep, OpenGate};
 pub use history::NewMark;
 pub use keepers::{
-    Admission, Admissions, CatchUpFault, EntryBlock, EntryNote, Founding, Latest, MOST_SESSIONS, MeetFault,
-    Session, Unmet, meet,
+    Admission, Admissions, CatchUpFault, EntryBlock, EntryNote, Founding, Latest, MOST_SESSIONS,
+    MeetFault, Session, Unmet, meet,
 };
 pub use replies::Report;
 pub use seat::{Peer, Seat, Worker};

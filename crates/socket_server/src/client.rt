@@ -110,7 +110,11 @@ impl<A: Served> Client<Talk<A>> {
             return;
         }
         let token = Token(self.number() as usize);
-        if self.stream().report_room(registry, token, awaits_room).is_err() {
+        if self
+            .stream()
+            .report_room(registry, token, awaits_room)
+            .is_err()
+        {
             self.standing.note_failure(Failure::Registration);
         }
     }

@@ -11,8 +11,7 @@ invariant_of-session g c =
     let past = c.session.inside.past in
     let old : SessionValue =
     session_of own_state.number own_state.space own_state.acknowledged own_state.tickets.numbers
-    own_state.places.numbers past in
-    (
+    own_state.places.numbers past in (
       detaches g.L.Founding.base old own_state.share.amount
           (subst (λ (s : SessionValue). IsGoneSince 0 s.task.space (Some s.past.entries)) (sym c.session.view_is)
           c.requires) c.session.invariant.0,
