@@ -66,7 +66,7 @@ module _ (base : State) where
   looked_in old new did = ap (λ (s : Session). s.space) did.after.leads
 
   detached_in : (old new : SessionValue) → Did base old detached new → new.task.space ≡ NO_SPACE
-  detached_in old new did = ap (λ (s : Session). s.space) did.after.leads
+  detached_in old new did = ap (λ (s : Session). s.space) did.after.leads.after
 
   redeemed_in : (own : Bool) (seen : ℕ) (old new : SessionValue)
       → Did base old (if own then redeemed seen else redeemed_for_another seen) new

@@ -12,6 +12,7 @@ use mio::{Registry, Token};
 use sessions::{Founding, OpenGate, Peer};
 use std::alloc::Global;
 use std::collections::BTreeMap;
+use std::io::{Read, Write};
 use std::sync::Wait;
 
 /// How many times a connection is read in one round, at most.
