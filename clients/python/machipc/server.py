@@ -3,6 +3,7 @@
 from __future__ import annotations
 
 import contextlib
+import dataclasses
 import inspect
 import logging
 from typing import Any, Callable, Dict, Generic, Optional, TypeVar
@@ -64,7 +65,10 @@ def _refusal(request: Message, fault: Exception) -> Optional[Message]:
     if not isinstance(fault, MachError):
         _log.error("request %d failed", request.id, exc_info=fault)
         fault = MIG_REMOTE_ERROR()
-    reply = request.reply(words(fault.code)) if request.remote else None
+    if not request.remote:
+        return None
+    # A stub takes no code from a message that is marked as complex.
+    reply = dataclasses.replace(request.reply(words(fault.code)), has_items=False)
     request.remote = 0
     return reply
 
