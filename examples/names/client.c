@@ -1,10 +1,10 @@
 /*
  * client NAME SECONDS
  *
- * Looks a service up and asks it again and again for so many seconds, and until it has an answer. Where the service goes, a notice says so, and the
- * client looks it up anew. It prints, in this order, how many requests were answered, answered wrongly, answered by a notice,
- * and left without either; how often it looked the service up; and how many of its calls were asked again after a cut. The
- * status is 1 where a request was answered wrongly or not at all.
+ * Looks a service up and asks it again and again for so many seconds, and until it has an answer. Where the service goes, a
+ * notice says so, and the client looks it up anew. It prints, in this order, how many requests were answered, answered
+ * wrongly, answered by a notice, and left without either; how often it looked the service up; and how many of its calls were
+ * asked again after a cut. The status is 1 where a request was answered wrongly or not at all.
  */
 
 #include "names.h"

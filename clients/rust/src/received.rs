@@ -65,7 +65,7 @@ impl Received {
         wire::word(&self.bytes, 0) & COMPLEX != 0
     }
 
-    /// A reply without a body yet. Its id is greater by 100, as the Mach Interface Generator has it.
+    /// Makes a reply without a body. Its id is the request's plus 100, as the Mach Interface Generator has it.
     pub fn answer(&self) -> Message<'static> {
         Message::new(self.id().wrapping_add(100))
     }

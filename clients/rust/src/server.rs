@@ -82,8 +82,8 @@ impl<'a> Server<'a> {
         self.handlers.insert(id, Box::new(handler));
     }
 
-    /// Sets what is called with the request's id and the fault where a handler fails with another fault than an [`Error`],
-    /// as to log it.
+    /// Sets the function that gets a request's id and the fault if a handler fails with another fault than an [`Error`], as
+    /// for a log.
     pub fn on_fault(&mut self, handler: impl FnMut(i32, &Fault) + Send + 'a) {
         self.fault_handler = Some(Box::new(handler));
     }
@@ -93,7 +93,7 @@ impl<'a> Server<'a> {
         self.limit = limit;
     }
 
-    /// What ends the loop, for a handler or another thread.
+    /// Returns what ends the loop, for a handler or another thread.
     pub fn stopper(&self) -> Stopper {
         self.stopper.clone()
     }

@@ -1,4 +1,4 @@
-//! What the programs of the tutorial share: the ids of requests, names for ports, how to ask and how to serve.
+//! What the programs of the tutorial share: the ids of requests, names for ports, and how to ask.
 
 use std::thread::sleep;
 use std::time::Duration;
@@ -73,27 +73,6 @@ pub fn ask(service: &Port, id: i32, question: Message<'_>) -> Result<Received, R
         return Err(Error::from_code(code).into());
     }
     Ok(answer)
-}
-
-/// Answers requests with what `handle` makes of each, or with the code of its refusal. Rights that it leaves in a request are
-/// given back.
-pub fn serve(
-    receive: impl Fn() -> machipc::Result<Received>,
-    handle: impl Fn(&mut Received) -> machipc::Result<Message<'static>>,
-) -> Result<(), Failure> {
-    loop {
-        let mut request = receive()?;
-        let answer = match handle(&mut request) {
-            Ok(answer) => answer,
-            Err(refused) => Message::new(request.id() + 100).words(&[refused.code()]),
-        };
-        if let Some(reply) = request.take_reply() {
-            match reply.send(answer) {
-                Err(fault) if fault.error().is_cut() => return Err(Error::from(fault).into()),
-                _ => {} // who asked may be gone
-            }
-        }
-    }
 }
 
 /// The text of a message's first item.
