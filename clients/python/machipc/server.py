@@ -3,7 +3,6 @@
 from __future__ import annotations
 
 import contextlib
-import dataclasses
 import inspect
 import logging
 from typing import Any, Callable, Dict, Generic, Optional, TypeVar
@@ -65,10 +64,7 @@ def _refusal(request: Message, fault: Exception) -> Optional[Message]:
     if not isinstance(fault, MachError):
         _log.error("request %d failed", request.id, exc_info=fault)
         fault = MIG_REMOTE_ERROR()
-    if not request.remote:
-        return None
-    # A stub takes no code from a message that is marked as complex.
-    reply = dataclasses.replace(request.reply(words(fault.code)), has_items=False)
+    reply = request.reply(words(fault.code)) if request.remote else None
     request.remote = 0
     return reply
 

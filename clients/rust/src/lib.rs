@@ -55,7 +55,7 @@
 //! # }
 //! ```
 //!
-//! A [`Server`] does so in a loop, with a handler for each id.
+//! A [`Server`] receives requests in a loop, calls a handler for each id, and sends the replies.
 //!
 //! # Rights have one owner
 //!
@@ -87,8 +87,9 @@
 //!
 //! # Threads and event loops
 //!
-//! Every type is `Send`, and all but [`Server`] are `Sync`. Each call takes a connection of its own while it lasts. A [`Watch`] waits for a message
-//! without taking it, and has a descriptor for an event loop; the crate `machipc-tokio` does so for tokio.
+//! Every type is `Send`, and all but [`Server`] are `Sync`. Each call takes a connection of its own while it lasts. A
+//! [`Watch`] waits for a message without taking it, and has a descriptor for an event loop; the crate `machipc-tokio` does
+//! so for tokio.
 //!
 //! A drop that gives a right back makes a call, and with [`Options::once`] it may wait as long as the patience.
 

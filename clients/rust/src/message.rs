@@ -7,7 +7,7 @@ use crate::items::{kinds, push_item};
 use crate::rights::{Port, ReceiveRight, Right, SendOnceRight, SendRight};
 use crate::{Disposition, Error, Name, Result, Task};
 
-pub(crate) const COMPLEX: u32 = 0x8000_0000;
+const COMPLEX: u32 = 0x8000_0000;
 /// Bytes of the largest message, and of a message without a body.
 pub(crate) const LARGEST: usize = 8192;
 pub(crate) const HEADER: usize = 24;
@@ -41,8 +41,7 @@ pub(crate) const HEADER: usize = 24;
 pub struct Message<'a> {
     id: i32,
     body: Vec<u8>,
-    /// Stubs of the Mach Interface Generator refuse a message that is marked as complex and has only data.
-    has_rights: bool,
+    has_items: bool,
     reply: Option<(Name, Disposition)>,
     held: Vec<Right>,
     /// The task whose names the message has.
@@ -58,7 +57,7 @@ impl<'a> Message<'a> {
         Message {
             id,
             body: Vec::new(),
-            has_rights: false,
+            has_items: false,
             reply: None,
             held: Vec::new(),
             of: None,
@@ -99,6 +98,7 @@ impl<'a> Message<'a> {
         let number = bytes.len() * 8 / usize::from(bits);
         assert_eq!((number * usize::from(bits) + 7) / 8, bytes.len(), "a whole number of elements");
         push_item(&mut self.body, kind, bits, number as u32, bytes);
+        self.has_items = true;
         self
     }
 
@@ -161,7 +161,7 @@ impl<'a> Message<'a> {
     fn push(&mut self, port: &Port, disposition: Disposition) {
         self.note(port);
         push_item(&mut self.body, disposition as u16, 32, 1, &port.name().0.to_le_bytes());
-        self.has_rights = true;
+        self.has_items = true;
     }
 
     /// Notes whose name the message gets.
@@ -190,7 +190,7 @@ impl<'a> Message<'a> {
             return Err(Error::MachSendNoBuffer);
         }
         let (reply, reply_disposition) = self.reply.map_or((Name::NULL, 0), |(name, it)| (name, it as u32));
-        let bits = disposition as u32 | reply_disposition << 8 | if self.has_rights { COMPLEX } else { 0 };
+        let bits = disposition as u32 | reply_disposition << 8 | if self.has_items { COMPLEX } else { 0 };
         let mut bytes = Vec::with_capacity(size);
         for word in [bits, size as u32, to.0, reply.0, 0, self.id as u32] {
             bytes.extend_from_slice(&word.to_le_bytes());

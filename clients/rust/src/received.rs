@@ -3,7 +3,7 @@
 use std::time::Duration;
 
 use crate::items::{Item, Items};
-use crate::message::{COMPLEX, HEADER};
+use crate::message::HEADER;
 use crate::rights::{Right, SendOnceRight, SendRight};
 use crate::{wire, Message, Name, SendError, Task};
 
@@ -24,7 +24,7 @@ impl Received {
             Right::SendOnce(right) => Some(Reply::SendOnce(right)),
             Right::Null | Right::Dead | Right::Receive(_) => None,
         };
-        let is_complex = wire::word(&bytes, 0) & COMPLEX != 0;
+        let is_complex = wire::word(&bytes, 0) & 0x8000_0000 != 0;
         let items = Items::new(if is_complex { &bytes[HEADER..] } else { &[] });
         let mut rights = Vec::new();
         for item in items.flatten() {
@@ -58,11 +58,6 @@ impl Received {
     /// The items of the body. A body that the sender gave as bytes may be none.
     pub fn items(&self) -> Items<'_> {
         Items::new(self.body())
-    }
-
-    /// Returns true if the sender marked the message as complex, as one that carries rights has to be.
-    pub fn is_complex(&self) -> bool {
-        wire::word(&self.bytes, 0) & COMPLEX != 0
     }
 
     /// Makes a reply without a body. Its id is the request's plus 100, as the Mach Interface Generator has it.
