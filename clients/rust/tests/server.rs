@@ -54,17 +54,22 @@ fn requests_in_a_loop() {
         Ok(Some(request.answer().words(&[count])))
     });
     add_stop(&mut server);
-    thread::scope(|scope| {
+    // What is wrong is said after the loop's end: a panic before it would wait for the server forever.
+    let answers: Vec<_> = thread::scope(|scope| {
         let running = scope.spawn(|| server.run(&service, None));
         let port = task.allocate().unwrap();
         let ask = |id| right.send_receive(Message::new(id).reply_to(&port), &port, None).unwrap();
-        for number in 1..=20 {
-            assert_eq!((ask(500).id(), words(&ask(7))), (600, vec![Error::MigBadId.code()]), "request {number}");
-        }
-        assert_eq!(ask(STOP).id(), STOP + 100);
+        let answers = [500, 7].repeat(20).into_iter().chain([STOP]).map(ask).collect();
         assert_eq!(running.join().unwrap(), Ok(()));
+        answers
     });
     drop(server);
+    let (last, answers) = answers.split_last().unwrap();
+    assert_eq!(last.id(), STOP + 100);
+    for (number, pair) in (1..).zip(answers.chunks(2)) {
+        assert_eq!((pair[0].id(), words(&pair[0])), (600, vec![number]));
+        assert_eq!((pair[1].id(), words(&pair[1])), (107, vec![Error::MigBadId.code()]));
+    }
     assert_eq!(count, 20);
 }
 
@@ -107,6 +112,21 @@ fn rights_that_a_handler_leaves_are_given_back() {
     assert_eq!(task.get_refs(left.name(), Kind::Send), Ok(0));
     let kept = kept.lock().unwrap().pop().unwrap();
     assert!(task.type_of(kept.name()).unwrap().holds(Kind::Receive));
+}
+
+/// The notice of a send-once right that is given back comes before the reply.
+#[test]
+fn rights_are_given_back_before_the_reply() {
+    let task = task();
+    let (service, port) = (task.allocate().unwrap(), task.allocate().unwrap());
+    let mut server = Server::new();
+    server.on(1, |request| Ok(Some(request.answer())));
+    for id in [1, 2] {
+        service.send(Message::new(id).make_send_once(&port).reply_to(&port), None).unwrap();
+        server.handle(service.receive(NOW).unwrap());
+        assert!(port.receive(NOW).unwrap().is_send_once_notice());
+        assert_eq!(port.receive(NOW).unwrap().id(), id + 100);
+    }
 }
 
 /// A right goes out in a reply, and comes back if nobody takes the reply.
@@ -159,7 +179,11 @@ fn replies_that_nobody_takes() {
     full.set_queue_limit(0).unwrap();
     let mut server = Server::new();
     server.set_limit(64);
-    server.on(1, |request| Ok(Some(request.answer())));
+    let mut count = 0;
+    server.on(1, |request| {
+        count += 1;
+        Ok(Some(request.answer()))
+    });
     add_stop(&mut server);
     for port in [&full, &gone] {
         service.send(Message::new(1).reply_by(port, Disposition::MakeSend), None).unwrap();
@@ -172,6 +196,8 @@ fn replies_that_nobody_takes() {
     assert_eq!(full.status().unwrap().messages, 0);
     assert_unused(&task, name);
     assert!(!full.status().unwrap().has_senders);
+    drop(server);
+    assert_eq!(count, 2, "the request that is too large is destroyed");
 }
 
 #[test]
