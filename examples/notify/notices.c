@@ -73,8 +73,8 @@ static kern_return_t cause(mach_msg_id_t id) {
     }
 }
 
-/* Notes a notice, and causes the next one. A name that the notice is about is given back first, unless it is gone. Without
-   its port mach_msg_server ends. */
+/* Compares a notice with the one that is due, and causes the next one. The name that the notice is about is given back first,
+   unless it is gone. mach_msg_server ends when its port is destroyed. */
 static kern_return_t note(mach_msg_id_t id, mach_port_t name) {
     kern_return_t code = KERN_SUCCESS;
     if (id != round_ids[count % ROUND] || name != watched) {

@@ -170,7 +170,7 @@ fn requests_without_a_reply() {
     assert_eq!(port.receive(NOW).unwrap().id(), 7);
 }
 
-/// A client that takes no replies, one that is gone, and one that asks too much hold nobody up.
+/// Full queues, dead reply ports and large requests hold nobody up.
 #[test]
 fn replies_that_nobody_takes() {
     let task = task();
