@@ -1,10 +1,10 @@
 /*
  * client NAME SECONDS
  *
- * Looks a service up and sends it requests for the given time. If the service ends, a notice says so, and the client
- * looks it up again. It prints, in this order, the number of requests that were answered, answered wrongly, answered by
- * a notice, and left without either; the number of look-ups; and the number of calls that were repeated after a cut.
- * The status is 1 if a request was answered wrongly or not at all.
+ * Looks a service up and asks it again and again for so many seconds, and until it has an answer. Where the service goes, a
+ * notice says so, and the client looks it up anew. It prints, in this order, how many requests were answered, answered
+ * wrongly, answered by a notice, and left without either; how often it looked the service up; and how many of its calls were
+ * asked again after a cut. The status is 1 where a request was answered wrongly or not at all.
  */
 
 #include "names.h"
@@ -50,7 +50,7 @@ int main(int count, char **words) {
         return 2;
     }
     time_t end = time(NULL) + seconds_of(words[2]);
-    for (uint32_t number = 1; time(NULL) < end; number++) {
+    for (uint32_t number = 1; time(NULL) < end || answered == 0; number++) {
         if (service == MACH_PORT_NULL) {
             looked_up++;
             if (names_look_up(task.bootstrap, words[1], &service) != KERN_SUCCESS) {

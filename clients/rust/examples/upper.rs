@@ -5,24 +5,25 @@
 use std::error::Error;
 use std::thread;
 
-use machipc::{Message, ReceiveRight, SendRight, Task};
+use machipc::{Message, ReceiveRight, Request, SendRight, Server, Task};
 
 /// The id of a request; its reply's is greater by 100.
 const UPPER: i32 = 500;
 
 /// Answers requests until no client is left that could send one.
 fn serve(service: &ReceiveRight) -> Result<(), machipc::Error> {
-    loop {
-        let mut request = service.receive(None)?;
-        if let Some(machipc::Notice::NoSenders(_)) = request.notice() {
-            return Ok(());
-        }
+    let mut server = Server::new();
+    let stopper = server.stopper();
+    server.on(UPPER, |request| {
         let text: Vec<u8> =
             request.items().flatten().filter_map(|item| item.data()).flat_map(|it| it.bytes).copied().collect();
-        if let Some(reply) = request.take_reply() {
-            reply.send(Message::new(UPPER + 100).bytes(&text.to_ascii_uppercase()))?;
-        }
-    }
+        Ok(Some(request.answer().bytes(&text.to_ascii_uppercase())))
+    });
+    server.on(Request::NoSenders as i32, move |_| {
+        stopper.stop();
+        Ok(None)
+    });
+    server.run(service, None)
 }
 
 /// Asks for a text in capitals.
@@ -38,7 +39,7 @@ fn run(texts: &[String]) -> Result<Vec<String>, Box<dyn Error>> {
     let task = Task::adopt()?;
     let service = task.allocate()?;
     let right = service.make_send()?;
-    service.request_notification(machipc::Request::NoSenders, 1, &service)?;
+    service.request_notification(Request::NoSenders, 1, &service)?;
     let server = thread::spawn(move || serve(&service));
     let answers = texts.iter().map(|text| ask(&task, &right, text)).collect();
     drop(right);

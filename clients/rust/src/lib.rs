@@ -55,6 +55,8 @@
 //! # }
 //! ```
 //!
+//! A [`Server`] receives requests in a loop, calls a handler for each id, and sends the replies.
+//!
 //! # Rights have one owner
 //!
 //! A right that was moved into a message can't be used again; the compiler refuses it:
@@ -85,8 +87,9 @@
 //!
 //! # Threads and event loops
 //!
-//! Every type is `Send` and `Sync`. Each call takes a connection of its own while it lasts. A [`Watch`] waits for a message
-//! without taking it, and has a descriptor for an event loop; the crate `machipc-tokio` does so for tokio.
+//! Every type is `Send`, and all but [`Server`] are `Sync`. Each call takes a connection of its own while it lasts. A
+//! [`Watch`] waits for a message without taking it, and has a descriptor for an event loop; the crate `machipc-tokio` does
+//! so for tokio.
 //!
 //! A drop that gives a right back makes a call, and with [`Options::once`] it may wait as long as the patience.
 
@@ -107,6 +110,7 @@ mod received;
 mod rights;
 #[allow(unsafe_code)]
 mod scm;
+mod server;
 mod shared;
 mod task;
 mod wire;
@@ -119,6 +123,7 @@ pub use messaging::{ReceiveOptions, Watch};
 pub use name::{Disposition, Kind, Name, PortStatus, Request, Type};
 pub use received::{Notice, Received, Reply};
 pub use rights::{Port, PortSet, ReceiveRight, Right, SendOnceRight, SendRight};
+pub use server::{Fault, Handled, Server, Stopper};
 pub use task::{AdoptError, Options, Task};
 
 /// The space that is always there.

@@ -60,6 +60,11 @@ impl Received {
         Items::new(self.body())
     }
 
+    /// Makes a reply without a body. Its id is the request's plus 100, as the Mach Interface Generator has it.
+    pub fn answer(&self) -> Message<'static> {
+        Message::new(self.id().wrapping_add(100))
+    }
+
     /// Takes the right to reply by.
     pub fn take_reply(&mut self) -> Option<Reply> {
         self.reply.take()

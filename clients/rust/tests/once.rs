@@ -5,7 +5,7 @@ mod common;
 use std::thread;
 use std::time::Duration;
 
-use machipc::{Error, Kind, Message, Options, Task};
+use machipc::{Error, Kind, Message, Options, Server, Task};
 
 const NOW: Option<Duration> = Some(Duration::ZERO);
 
@@ -18,6 +18,7 @@ fn single_effects() {
         messages(&task);
         carried(&task);
         threads(&task);
+        served(&task);
     }
     println!("{} calls asked again", task.repeats());
     overtaken(&task);
@@ -79,6 +80,32 @@ fn threads(task: &Task) {
         assert_eq!(ids, (0..45).collect::<Vec<_>>());
     });
     assert_eq!(port.status().unwrap().messages, 0);
+}
+
+/// Each request is handled once, and has one reply.
+fn served(task: &Task) {
+    let (service, port) = (task.allocate().unwrap(), task.allocate().unwrap());
+    let right = service.make_send().unwrap();
+    let mut server = Server::new();
+    let (stopper, mut count) = (server.stopper(), 0);
+    server.on(1, move |request| {
+        count += 1;
+        if count == 5 {
+            stopper.stop();
+        }
+        Ok(Some(request.answer().words(&[count])))
+    });
+    let answers: Vec<_> = thread::scope(|scope| {
+        let running = scope.spawn(|| server.run(&service, None));
+        let ask = |_| right.send_receive(Message::new(1).reply_to(&port), &port, None).unwrap();
+        let answers = (0..5).map(ask).collect();
+        assert_eq!(running.join().unwrap(), Ok(()));
+        answers
+    });
+    for (number, answer) in (1..).zip(&answers) {
+        let data = answer.items().next().unwrap().unwrap().data().unwrap();
+        assert_eq!(data.words().collect::<Vec<_>>(), [number]);
+    }
 }
 
 /// A second program that numbers its calls in the same space, against the rule: the first one's next call fails.

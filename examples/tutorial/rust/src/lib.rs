@@ -1,5 +1,4 @@
-//! What the programs of the tutorial have in common: the ids of requests, names for ports, requests to a service, and
-//! its loop.
+//! What the programs of the tutorial share: the ids of requests, names for ports, and how to ask.
 
 use std::thread::sleep;
 use std::time::Duration;
@@ -76,28 +75,7 @@ pub fn ask(service: &Port, id: i32, question: Message<'_>) -> Result<Received, R
     Ok(answer)
 }
 
-/// Answers requests with what `handle` returns for each, or with the code of its refusal. Rights that it leaves in a
-/// request are given back.
-pub fn serve(
-    receive: impl Fn() -> machipc::Result<Received>,
-    handle: impl Fn(&mut Received) -> machipc::Result<Message<'static>>,
-) -> Result<(), Failure> {
-    loop {
-        let mut request = receive()?;
-        let answer = match handle(&mut request) {
-            Ok(answer) => answer,
-            Err(refused) => Message::new(request.id() + 100).words(&[refused.code()]),
-        };
-        if let Some(reply) = request.take_reply() {
-            match reply.send(answer) {
-                Err(fault) if fault.error().is_cut() => return Err(Error::from(fault).into()),
-                _ => {} // who asked may be gone
-            }
-        }
-    }
-}
-
-/// Returns the text of a message's first item.
+/// The text of a message's first item.
 pub fn text_of(message: &Received) -> machipc::Result<String> {
     let data = message.items().next().and_then(|item| item.ok()?.data()).ok_or(Error::MigBadArguments)?;
     data.text().map(str::to_owned).map_err(|_| Error::MigBadArguments)

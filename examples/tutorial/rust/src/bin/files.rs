@@ -7,8 +7,8 @@
 use std::fs;
 use std::path::{Path, PathBuf};
 
-use machipc::{Error, Kind, Message, Name, ReceiveRight, Received, Result, Task};
-use tutorial::{ask, begin, name_for, serve, text_of, Failure, CHECK_IN, OPEN, READ, WRITE};
+use machipc::{Error, Kind, Message, Name, ReceiveRight, Received, Result, Server, Task};
+use tutorial::{ask, begin, name_for, text_of, Failure, CHECK_IN, OPEN, READ, WRITE};
 
 const SERVICE: Name = Name(0x3fff_fff0);
 const ALL: Name = Name(0x3fff_fff1);
@@ -99,13 +99,9 @@ fn main() -> std::result::Result<(), Failure> {
     ask(&files.task.bootstrap(), CHECK_IN, me)?;
     service.forget();
     println!("files {}", std::process::id());
-    serve(
-        || files.task.receive(ALL, &Default::default()),
-        |request| match request.id() {
-            OPEN => files.open(request),
-            READ => files.read(request),
-            WRITE => files.write(request),
-            _ => Err(Error::MigBadId),
-        },
-    )
+    let mut server = Server::new();
+    server.on(OPEN, |request| Ok(Some(files.open(request)?)));
+    server.on(READ, |request| Ok(Some(files.read(request)?)));
+    server.on(WRITE, |request| Ok(Some(files.write(request)?)));
+    Ok(server.run(&files.task.port(ALL), None)?)
 }

@@ -3,8 +3,8 @@
 //! The space is its table: the name of a service's send right is computed from the service's name. So a service that
 //! checked in is still known after the name service was killed and started again.
 
-use machipc::{Disposition, Error, Kind, Message, Name, Received, Result, Task};
-use tutorial::{begin, name_for, serve, text_of, Failure, CHECK_IN, LOOK_UP};
+use machipc::{Disposition, Error, Kind, Message, Name, Received, Result, Server, Task};
+use tutorial::{begin, name_for, text_of, Failure, CHECK_IN, LOOK_UP};
 
 fn check_in(task: &Task, request: &mut Received) -> Result<Message<'static>> {
     let name = name_for(&text_of(request)?);
@@ -40,12 +40,8 @@ fn main() -> std::result::Result<(), Failure> {
     let keep: Vec<Name> = task.names()?.into_keys().filter(services).collect();
     task.sweep(&keep)?;
     println!("names {}", std::process::id());
-    serve(
-        || task.receive(task.bootstrap().name(), &Default::default()),
-        |request| match request.id() {
-            CHECK_IN => check_in(&task, request),
-            LOOK_UP => look_up(&task, request),
-            _ => Err(Error::MigBadId),
-        },
-    )
+    let mut server = Server::new();
+    server.on(CHECK_IN, |request| Ok(Some(check_in(&task, request)?)));
+    server.on(LOOK_UP, |request| Ok(Some(look_up(&task, request)?)));
+    Ok(server.run(&task.bootstrap(), None)?)
 }
