@@ -2,7 +2,7 @@
 
 It shares no text with the definitions of the proofs, nor with the server's code. It counts rights and finds ports by
 walking over everything, and undoes a refused call by a copy that was made before it. It follows the text of
-docs/FORMATS.md and docs/DECISIONS.md.
+docs/CALLS.md, docs/FORMATS.md and docs/DECISIONS.md.
 """
 
 import copy

@@ -1,5 +1,5 @@
 //! Receives a message (Mach 3 Kernel Interfaces, `mach_msg`, `MACH_RCV_MSG`) on the running state. The order of the
-//! tests is this server's (docs/FORMATS.md).
+//! tests is this server's (docs/CALLS.md).
 #![tactic(auto)]
 
 mod asked;

@@ -1,5 +1,5 @@
 //! Sends a message (Mach 3 Kernel Interfaces, `mach_msg`, `MACH_SEND_MSG`) on the running state. The order of the tests
-//! is this server's (docs/FORMATS.md).
+//! is this server's (docs/CALLS.md).
 #![tactic(auto)]
 
 mod cited;
