@@ -34,7 +34,7 @@ pub trait Disk {
     /// How many calls have been made, by a count that each of them raises by one at most.
     ghost calls: { Self → ℕ };
 
-    /// How many calls have failed, as far as the count's range goes.
+    /// Returns how many calls have failed, as far as the count's range goes.
     fn failures(&self) -> u64
         ensures { result ≡ failed_calls self.now };
 

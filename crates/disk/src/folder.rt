@@ -15,7 +15,7 @@ pub trait Folder {
     /// The folder over time.
     ghost view: { Self → FolderView };
 
-    /// Whether there is a file of this name.
+    /// Returns whether there is a file of this name.
     fn has(&self, name: &str) -> bool
         ensures { honest → result ≡ is_some ((view self.now).seen name.now) };
 

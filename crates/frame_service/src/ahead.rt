@@ -6,7 +6,8 @@ ghost use Rattle.words.specs.Words.{frame_encoding};
 use codes::{MAX_FRAME_CONTENT, MIN_FRAME_CONTENT};
 use words::take_word;
 
-/// Whether a whole frame stands at the front, or a length that no frame has, so that reading it waits for nothing.
+/// Returns whether a whole frame stands at the front, or a length that no frame has, so that reading it waits for
+/// nothing.
 pub(crate) fn holds_frame(bytes: &[u8]) -> bool
     ensures { result ≡ holds_frame bytes.now }
 {

@@ -83,11 +83,11 @@ pub trait Asker {
         ensures makes { IfSome result (λ ticket. makes self.old Request.Confine ticket self.new) }
         ensures lacks { IfNone result (lacks self.old Request.Confine self.new) };
 
-    /// Whether a ticket's call was done, which is code 0.
+    /// Returns whether a ticket's call was done, which is code 0.
     fn is_done(&self, ticket: &Self::Ticket) -> bool
         ensures { result ≡ succeeded (answer ticket.now) };
 
-    /// Whether a ticket's call found nothing to do: there was no message, or no room in the queue.
+    /// Returns whether a ticket's call found nothing to do: there was no message, or no room in the queue.
     fn is_timed_out(&self, ticket: &Self::Ticket) -> bool
         ensures { result ≡ timed_out (answer ticket.now) };
 

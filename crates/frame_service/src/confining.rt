@@ -45,7 +45,7 @@ impl Shown {
     }
 }
 
-/// Whether a call is an attach of a confined connection, which isn't made.
+/// Returns whether a call is an attach of a confined connection, which isn't made.
 pub fn is_kept(is_confined: bool, call: &Call) -> bool
     ensures { result ≡ (is_confined && is_attach call.now) }
 {

@@ -35,7 +35,7 @@ impl<W: Write> Outbox<W> {
         }
     }
 
-    /// How many bytes the stream hasn't taken yet.
+    /// Returns how many bytes the stream hasn't taken yet.
     pub fn len(&self) -> usize
         ensures { result ≡ length self.now.bytes }
     {

@@ -71,7 +71,7 @@ fn take_next<S: Read, A: Asker>(
     }
 }
 
-/// Whether a frame in hand has calls that are to be made again after a wait.
+/// Returns whether a frame in hand has calls that are to be made again after a wait.
 fn waits<T>(pending: &PendingFrame<T>) -> bool {
     match pending {
         PendingFrame::Settled(_) => false,

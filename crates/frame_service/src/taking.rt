@@ -194,7 +194,7 @@ fn send_and_receive<A: Asker>(
     }
 }
 
-/// Whether a send was made and done.
+/// Returns whether a send was made and done.
 fn is_sent<A: Asker>(asker: &A, ready: &Ready<A::Ticket>) -> bool
     ensures { (call : Call) → result ≡ is_sent A.answer A.makes A.lacks call (Settled ready.now) }
 {
@@ -246,7 +246,7 @@ fn try_call<A: Asker>(
     Err(again(call))
 }
 
-/// Whether a call with this bound may wait.
+/// Returns whether a call with this bound may wait.
 fn is_patient(bound: Option<u32>) -> bool
     ensures { result ≡ is_patient bound }
 {

@@ -50,7 +50,7 @@ impl EntryBlock {
         Ok(EntryBlock { link, cells })
     }
 
-    /// How many entries it has room for.
+    /// Returns how many entries it has room for.
     pub fn capacity(&self) -> usize
         ensures { result ≡ length self.now.cells }
     {
@@ -92,8 +92,8 @@ impl EntryBlock {
         set_cell(&self.link, boxed)
     }
 
-    /// How many entries there were when this block was left, with a note that knows the link. `None` if it wasn't left
-    /// yet.
+    /// Returns how many entries there were when this block was left, with a note that knows the link. `None` if it
+    /// wasn't left yet.
     pub(crate) fn left(&self) -> Option<(usize, Note<Link>)>
         ensures cell { IfSome result (λ r. r.1.cell ≡ self.now.link) }
         ensures start { IfSome result (λ r. option_map (λ l. l.start) r.1.known ≡ Some r.0) }

@@ -64,7 +64,7 @@ impl Link {
         Ok(Box::new(alloc, self)?)
     }
 
-    /// How many entries there were.
+    /// Returns how many entries there were.
     pub(crate) fn start(&self) -> usize
         ensures { result ≡ self.now.start }
     {

@@ -74,7 +74,7 @@ impl<L: FirstBlock> Past<L> {
         compare_last(&mut self.notes, &mut other.notes, both);
     }
 
-    /// Whether this one is seen to begin one that is in a later entry block.
+    /// Returns whether this one is seen to begin one that is in a later entry block.
     fn begins(&mut self, other: &mut Past<L>) -> bool
         requires { self.old.blocks < other.old.blocks }
         ensures same { (self.new ≡ self.old) × (other.new ≡ other.old) }
@@ -167,8 +167,8 @@ impl<L: FirstBlock> Past<L> {
     }
 }
 
-/// Whether notes up to an earlier entry block are seen to be of the same cells as the first ones up to a later block,
-/// and to know a prefix of what those know.
+/// Returns whether notes up to an earlier entry block are seen to be of the same cells as the first ones up to a later
+/// block, and to know a prefix of what those know.
 fn begin_in_block_before<L: FirstBlock>(
     place: &mut Place<L>,
     notes: &mut Vec<Note<Held>>,

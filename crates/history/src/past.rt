@@ -92,21 +92,21 @@ impl<L: FirstBlock> Past<L> {
         })
     }
 
-    /// How many entries it has.
+    /// Returns how many entries it has.
     pub fn len(&self) -> usize
         ensures { result ≡ length self.now.entries }
     {
         self.notes.len()
     }
 
-    /// How many entry blocks came before its block.
+    /// Returns how many entry blocks came before its block.
     pub fn blocks(&self) -> usize
         ensures { result ≡ self.now.blocks }
     {
         self.place.blocks()
     }
 
-    /// How many entries came before its entry block.
+    /// Returns how many entries came before its entry block.
     pub fn start(&self) -> usize
         ensures start { result ≡ self.now.start }
         ensures within { self.now.start ≤ length self.now.entries }
@@ -115,7 +115,7 @@ impl<L: FirstBlock> Past<L> {
         self.place.start()
     }
 
-    /// How many entries its block has room for.
+    /// Returns how many entries its block has room for.
     pub fn capacity(&self) -> usize
         ensures { result ≡ length self.now.block.cells }
     {

@@ -95,14 +95,14 @@ impl<L: FirstBlock> Place<L> {
         Arc::strong_count(&self.block) == 1
     }
 
-    /// How many entries come before its block.
+    /// Returns how many entries come before its block.
     pub(crate) fn start(&self) -> usize
         ensures { result ≡ self.now.start }
     {
         self.start
     }
 
-    /// How many blocks come before its block.
+    /// Returns how many blocks come before its block.
     pub(crate) fn blocks(&self) -> usize
         ensures { result ≡ length self.now.links }
     {
@@ -165,8 +165,8 @@ impl<L: FirstBlock> Place<L> {
         }
     }
 
-    /// How many entries there were when this entry block was left; the links of a place further on show the same.
-    /// `None` if the block wasn't left yet.
+    /// Returns how many entries there were when this entry block was left; the links of a place further on show the
+    /// same. `None` if the block wasn't left yet.
     pub(crate) fn left(&self, other: &mut Place<L>) -> Option<usize>
         requires more { length self.now.links < length other.old.links }
         requires begins { take (length self.now.links) other.old.links ≡ self.now.links }

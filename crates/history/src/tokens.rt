@@ -62,7 +62,7 @@ impl<M: Marking> Storing<M> {
         }
     }
 
-    /// How many were counted.
+    /// Returns how many were counted.
     pub fn count(&self) -> u64
         ensures { result ≡ self.now }
     {
@@ -108,7 +108,7 @@ impl<M: Marking> Storing<M> {
 }
 
 impl<M: Marking> Stored<M> {
-    /// How many are known to be stored.
+    /// Returns how many are known to be stored.
     pub fn count(&self) -> u64
         ensures { result ≡ self.now }
     {

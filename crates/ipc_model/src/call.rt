@@ -46,7 +46,7 @@ impl Call {
         }
     }
 
-    /// Whether the call has a record if it is answered by this reply: it may have changed the state.
+    /// Returns whether the call has a record if it is answered by this reply: it may have changed the state.
     pub fn has_record(&self, reply: &Reply) -> bool
         ensures { result ≡ has_record self.now reply.now }
     {
@@ -59,7 +59,7 @@ impl Call {
         }
     }
 
-    /// Whether a call with this number can have a record.
+    /// Returns whether a call with this number can have a record.
     pub fn is_recorded(&self) -> bool
         ensures { result ≡ is_recorded self.now }
     {

@@ -160,14 +160,14 @@ impl PlainCall {
         }
     }
 
-    /// Whether the call has a record if it is answered by this reply: it may have changed the state.
+    /// Returns whether the call has a record if it is answered by this reply: it may have changed the state.
     pub fn has_record(&self, reply: &PlainReply) -> bool
         ensures { result ≡ has_record self.now reply.now }
     {
         self.is_recorded() && (reply.is_success() || self.destroyed_message(reply))
     }
 
-    /// Whether a call with this number can have a record.
+    /// Returns whether a call with this number can have a record.
     pub fn is_recorded(&self) -> bool
         ensures { result ≡ is_recorded self.now }
     {
@@ -182,7 +182,7 @@ impl PlainCall {
         }
     }
 
-    /// Whether number 22 takes the call. A receive that followed a wait is none that a task asks for.
+    /// Returns whether number 22 takes the call. A receive that followed a wait is none that a task asks for.
     pub fn may_be_numbered(&self) -> bool
         ensures { result ≡ may_be_numbered self.now }
     {

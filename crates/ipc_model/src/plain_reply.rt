@@ -116,7 +116,7 @@ impl PlainReply {
         }
     }
 
-    /// Whether the call was done, which is code 0.
+    /// Returns whether the call was done, which is code 0.
     pub fn is_success(&self) -> bool
         ensures { result ≡ succeeded self.now }
     {
@@ -171,7 +171,7 @@ impl PlainReply {
         Ok(copy)
     }
 
-    /// Whether two replies are the same.
+    /// Returns whether two replies are the same.
     pub fn is_same(&self, other: &PlainReply) -> bool
         ensures { IsTrue result ↔ (self.now ≡ other.now) }
     {

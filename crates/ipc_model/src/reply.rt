@@ -23,7 +23,7 @@ impl NumberedReply {
         })
     }
 
-    /// Whether two replies are the same.
+    /// Returns whether two replies are the same.
     pub fn is_same(&self, other: &NumberedReply) -> bool
         ensures { IsTrue result ↔ (self.now ≡ other.now) }
     {
@@ -54,7 +54,7 @@ impl Reply {
         Reply::Plain(PlainReply::refused(alloc, number, code))
     }
 
-    /// Whether the call was done, which is code 0; of a numbered one, whether the call that it numbers was.
+    /// Returns whether the call was done, which is code 0; of a numbered one, whether the call that it numbers was.
     pub fn is_success(&self) -> bool
         ensures { result ≡ succeeded self.now }
     {

@@ -3,7 +3,7 @@ ghost use Rattle.ipc_model.specs.encodings.PlainCalls.{IsMessageSize};
 
 use codes::{HEADER_LENGTH, MAX_MESSAGE_SIZE};
 
-/// Whether a message may have this size.
+/// Returns whether a message may have this size.
 pub fn is_message_size(size: usize) -> bool
     ensures yes { result ≡ true → IsMessageSize size }
     ensures no { result ≡ false → IsMessageSize size → ⊥ }

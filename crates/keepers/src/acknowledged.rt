@@ -28,7 +28,7 @@ impl<L: Founding> Acknowledged<L> {
         Acknowledged { count: 0, stored }
     }
 
-    /// How many were.
+    /// Returns how many were.
     pub(crate) fn count(&self) -> u64
         ensures { result ≡ self.now }
     {

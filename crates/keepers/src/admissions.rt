@@ -83,7 +83,7 @@ impl<L: Founding> Admissions<L> {
         })
     }
 
-    /// How many were given.
+    /// Returns how many were given.
     pub fn given(&self) -> u32
         ensures { result ≡ self.now }
     {

@@ -85,7 +85,7 @@ fn audit<L: Founding>(book: ledger::Book<L>, share: Share<L>)
     book.audit(&mut share);
 }
 
-/// Whether one prefix of the history is seen to begin another.
+/// Returns whether one prefix of the history is seen to begin another.
 fn begins<L: Founding>(short: &mut Past<L>, long: &mut Past<L>) -> bool
     ensures same { (short.new ≡ short.old) × (long.new ≡ long.old) }
     ensures begins { result ≡ true → Begins short.old.entries long.old.entries }
@@ -98,7 +98,8 @@ fn begins<L: Founding>(short: &mut Past<L>, long: &mut Past<L>) -> bool
     short.agree(long)
 }
 
-/// Whether all of these sessions belong to a history of which `stored` records are stored. Their shares are then added.
+/// Returns whether all of these sessions belong to a history of which `stored` records are stored. Their shares are
+/// then added.
 fn count_all<L: Founding>(
     sessions: Vec<Session<L>>,
     stored: u64,
@@ -123,8 +124,8 @@ fn count_all<L: Founding>(
     true
 }
 
-/// Whether a session belongs to a history of which `stored` records are stored, and its number is greater than the last
-/// one's. Its share is then added.
+/// Returns whether a session belongs to a history of which `stored` records are stored, and its number is greater than
+/// the last one's. Its share is then added.
 fn count<L: Founding>(
     session: Session<L>,
     stored: u64,

@@ -56,7 +56,7 @@ impl Destructions {
         self.counts[space as usize] = after;
     }
 
-    /// Whether a space under this number was destroyed after so many records.
+    /// Returns whether a space under this number was destroyed after so many records.
     pub(crate) fn has_since(&self, space: u32, since: u64) -> bool
         ensures { result ≡ nat_lt since (count_at self.now space) }
     {

@@ -327,14 +327,14 @@ impl<L: Founding> KernelKeeper<L> {
         self.core.finished(receipt);
     }
 
-    /// How many records were made since the store was opened.
+    /// Returns how many records were made since the store was opened.
     pub fn made(&self) -> u64
         ensures { result ≡ self.now.core.half.log.made }
     {
         self.core.made()
     }
 
-    /// Whether records wait to be taken.
+    /// Returns whether records wait to be taken.
     pub fn is_waiting(&self) -> bool
         ensures { MatchBool result (self.now.core.taken < self.now.core.half.log.made)
             (self.now.core.half.log.made ≤ self.now.core.taken) }
@@ -342,7 +342,7 @@ impl<L: Founding> KernelKeeper<L> {
         self.core.is_waiting()
     }
 
-    /// How many records the epoch log has.
+    /// Returns how many records the epoch log has.
     pub fn log_length(&self) -> u64
         ensures { result ≡ self.now.core.half.log.length }
     {

@@ -93,7 +93,7 @@ impl<L: Founding> KernelCore<L> {
         self.half.kernel()
     }
 
-    /// How many records were made, which are all of the history.
+    /// Returns how many records were made, which are all of the history.
     pub(crate) fn made(&self) -> u64
         ensures made { result ≡ self.now.half.log.made }
         ensures all { IfSome (entries_in self.now) (λ entries. result ≡ length entries) }
@@ -206,14 +206,14 @@ impl<L: Founding> KernelCore<L> {
         self.half.finished(receipt);
     }
 
-    /// Whether records wait to be taken.
+    /// Returns whether records wait to be taken.
     pub(crate) fn is_waiting(&self) -> bool
         ensures { MatchBool result (self.now.taken < self.now.half.log.made) (self.now.half.log.made ≤ self.now.taken) }
     {
         self.taken < self.half.made()
     }
 
-    /// How many records the epoch log has.
+    /// Returns how many records the epoch log has.
     pub(crate) fn log_length(&self) -> u64
         ensures { result ≡ self.now.half.log.length }
     {

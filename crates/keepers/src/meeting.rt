@@ -68,7 +68,7 @@ impl<L: Founding> Session<L> {
         other.learn(self)
     }
 
-    /// Whether it has seen no more than another.
+    /// Returns whether it has seen no more than another.
     fn is_after(&self, other: &Session<L>) -> bool
         ensures { MatchBool result (IsAfter self.now.past other.now.past) (IsAfter other.now.past self.now.past) }
     {

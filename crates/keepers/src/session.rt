@@ -70,14 +70,14 @@ impl<L: Founding> Session<L> {
         self.own_state.space
     }
 
-    /// How many records of the history it has seen.
+    /// Returns how many records of the history it has seen.
     pub fn seen(&self) -> usize
         ensures { result ≡ self.now.task.seen }
     {
         self.past.len()
     }
 
-    /// How many records of the history were acknowledged to its task: the most that a redeemed reply saw.
+    /// Returns how many records of the history were acknowledged to its task: the most that a redeemed reply saw.
     pub fn acknowledged(&self) -> u64
         ensures { result ≡ self.now.task.acknowledged }
     {

@@ -87,7 +87,7 @@ impl<L: Founding, D: Disk> StoreKeeper<L, D> {
         }
     }
 
-    /// How many records of the history are stored: a crash leaves at least that many.
+    /// Returns how many records of the history are stored: a crash leaves at least that many.
     pub fn stored(&self) -> u64
         ensures stored { result ≡ self.now.stored }
         ensures left { D.honest → (c : Slots) → MayLeave (D.view self.now.store.disk) c
@@ -107,7 +107,7 @@ impl<L: Founding, D: Disk> StoreKeeper<L, D> {
         self.stored.covers(rt, mark, known);
     }
 
-    /// Whether the device failed; then the store has to be opened again.
+    /// Returns whether the device failed; then the store has to be opened again.
     pub fn has_failed(&self) -> bool
         ensures { result ≡ self.now.store.failed }
     {
@@ -121,14 +121,14 @@ impl<L: Founding, D: Disk> StoreKeeper<L, D> {
         self.store.epoch()
     }
 
-    /// Whether a checkpoint is under way.
+    /// Returns whether a checkpoint is under way.
     pub fn is_checkpointing(&self) -> bool
         ensures { result ≡ is_some self.now.store.checkpoint }
     {
         self.store.is_checkpointing()
     }
 
-    /// Whether some records that led to a checkpoint's state aren't stored yet, and the device works.
+    /// Returns whether some records that led to a checkpoint's state aren't stored yet, and the device works.
     pub fn is_after(&self) -> bool
         ensures { MatchBool result ((self.now.stored < self.now.earlier) × (self.now.store.failed ≡ false))
             ((self.now.earlier ≤ self.now.stored) ⊎ (self.now.store.failed ≡ true)) }
@@ -220,7 +220,7 @@ impl<L: Founding, D: Disk> StoreKeeper<L, D> {
         self.store_next(rt, mark, load)
     }
 
-    /// Whether a load is the next one, and of the segment in use.
+    /// Returns whether a load is the next one, and of the segment in use.
     fn is_next(&self, load: &Load<L>) -> bool
         ensures { MatchBool result (IsNext self.now.store self.now.stored load.now)
             (IsNext self.now.store self.now.stored load.now → ⊥) }
@@ -303,7 +303,7 @@ impl<L: Founding, D: Disk> StoreKeeper<L, D> {
         Ok(())
     }
 
-    /// Whether a checkpoint can be begun with this state.
+    /// Returns whether a checkpoint can be begun with this state.
     fn can_begin(&self, end: &End<L>) -> bool
         ensures { MatchBool result (CanBegin self.now.store end.now) (CanBegin self.now.store end.now → ⊥) }
     {

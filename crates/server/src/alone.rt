@@ -273,7 +273,7 @@ fn space_after(space: u32, attached: u32, reply: &Reply) -> u32
     if reply.is_success() { attached } else { space }
 }
 
-/// Whether a caller is confined after the attach that asked whether its space is there.
+/// Returns whether a caller is confined after the attach that asked whether its space is there.
 fn confined_after(confined: bool, said: &Reply) -> bool
     ensures { result ≡ (succeeded said.now || confined) }
 {

@@ -61,8 +61,8 @@ fn after_first<'a>(lines: &'a Result<Vec<u8>, ListFault>, first: &[u8]) -> Optio
     }
 }
 
-/// Whether the second lines are the first ones of the store of version 1, in the next epoch: opening such a store
-/// begins one, in version 2.
+/// Returns whether the second lines are the first ones of the store of version 1, in the next epoch: opening such a
+/// store begins one, in version 2.
 fn is_upgraded(before: &Result<Vec<u8>, ListFault>, after: &Result<Vec<u8>, ListFault>) -> bool {
     let state = after_first(before, b"epoch 0 records 1\n");
     state.is_some() && state == after_first(after, b"epoch 1 records 0\n")

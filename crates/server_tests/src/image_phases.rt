@@ -141,8 +141,8 @@ static ALONGSIDE: [Phase; 18] = [
     (b"akwd0clhoiakwd1pfd", ONE_RECORD_AFTER_AN_IMAGE),
 ];
 
-/// Whether each event of a list was done, by the letters of the answers: a ticket, a name, or that it was done. None of
-/// the tables' events comes out of turn.
+/// Returns whether each event of a list was done, by the letters of the answers: a ticket, a name, or that it was done.
+/// None of the tables' events comes out of turn.
 fn are_done(answers: &[u8]) -> bool {
     for answer in answers {
         if !matches!(*answer, b'#' | b'+' | b'A'..=b'Z') {

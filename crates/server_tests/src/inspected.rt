@@ -6,12 +6,12 @@ use disk::{Disk, Slot};
 use inspect::{ListFault, list, sketch};
 use std::alloc::Global;
 
-/// Whether a slot of both disks holds the same.
+/// Returns whether a slot of both disks holds the same.
 fn is_alike<S: Store>(one: &S, other: &S, slot: Slot) -> bool {
     one.bytes(slot) == other.bytes(slot)
 }
 
-/// Whether all slots of both disks do.
+/// Returns whether all slots of both disks do.
 pub(crate) fn are_alike<S: Store>(one: &S, other: &S) -> bool {
     let are = [
         is_alike(one, other, Slot::Image0),

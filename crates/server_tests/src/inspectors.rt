@@ -30,7 +30,7 @@ fn run(rt: &HostRuntime, words: Option<&[String]>, is_drawing: bool) -> Ended {
 /// A status, and what is written to the output and to the errors.
 type End = (u8, &'static str, &'static str);
 
-/// Whether a run ends in this way.
+/// Returns whether a run ends in this way.
 fn ends(rt: &HostRuntime, words: Option<&[String]>, is_drawing: bool, end: End) -> bool {
     let (status, output, errors) = end;
     let ended = run(rt, words, is_drawing);
@@ -50,7 +50,7 @@ fn paths(rt: &HostRuntime, count: u32) -> Option<Vec<String>> {
     Some(words)
 }
 
-/// Whether a run with `count` words that are no folders ends in this way.
+/// Returns whether a run with `count` words that are no folders ends in this way.
 fn ends_with(rt: &HostRuntime, count: u32, is_drawing: bool, end: End) -> Option<bool> {
     let words = paths(rt, count)?;
     Some(ends(rt, Some(&words), is_drawing, end))
@@ -77,7 +77,7 @@ fn words_have_a_status_and_a_line(rt: HostRuntime) {
     same(&rt, ends_with(&rt, 1, false, NOWHERE), Some(true));
 }
 
-/// Whether an empty folder is listed, and whether it can then be removed as an empty one.
+/// Returns whether an empty folder is listed, and whether it can then be removed as an empty one.
 fn lists_empty(rt: &HostRuntime, name: &str) -> Option<[bool; 2]> {
     let words = folder(rt, name)?;
     let is_listed = ends(rt, Some(&words), false, LISTED);
@@ -139,7 +139,8 @@ fn seen_both(rt: &HostRuntime, folder: &str) -> Option<(Seen, Seen)> {
     Some((image, segment))
 }
 
-/// Whether a store's files exist, whether it is listed, and whether its files and its folder are then as before.
+/// Returns whether a store's files exist, whether it is listed, and whether its files and its folder are then as
+/// before.
 fn lists_unchanged(rt: &HostRuntime, words: &[String], path: &str) -> [bool; 3] {
     let before = seen_both(rt, path);
     let is_listed = ends(rt, Some(words), false, LISTED);
@@ -181,8 +182,8 @@ name 00000100 00020000 port 1 refs 0
 port 1 held 1 00000100 send 0 once 0 queue 0 of 5 seqno 0 mscount 0
 ";
 
-/// Whether a store is made in a folder, by a server's run of one call, after a disk that was opened there before;
-/// whether that disk's lines are those of the store then; and whether all was removed.
+/// Returns whether a store is made in a folder, by a server's run of one call, after a disk that was opened there
+/// before; whether that disk's lines are those of the store then; and whether all was removed.
 fn lists_made_later(rt: &HostRuntime, name: &str) -> Option<[bool; 3]> {
     let words = folder(rt, name)?;
     let path = words.first()?.as_str();

@@ -74,7 +74,7 @@ fn a_writer_that_fails_has_a_part(rt: HostRuntime) {
     }
 }
 
-/// How many edges a drawing has.
+/// Returns how many edges a drawing has.
 fn edges(drawing: &[u8]) -> usize {
     let mut count = 0usize;
     for bytes in drawing.windows(4) {
@@ -85,7 +85,7 @@ fn edges(drawing: &[u8]) -> usize {
     count
 }
 
-/// How many edges the drawing of the store has.
+/// Returns how many edges the drawing of the store has.
 fn edges_when_used<S: Store + Drop>(alloc: Global) -> Option<usize> {
     let drawing = drawing_of(alloc, &mut used::<S>(alloc))?;
     Some(edges(&drawing))

@@ -132,7 +132,7 @@ static TWO_CALLS: (&[u8], &[u8]) = (b"kwd0aawk0kww1kdd1002", b"----##-+--+---+-B
 /// A status that saw a send waits for the send's record.
 static SEND_SEEN: (&[u8], &[u8]) = (b"akwd0sg2k2w2d21", b"#+++A##-+-+-+b=");
 
-/// Whether a list of events has these answers on a new store, and how long its segment is then.
+/// Returns whether a list of events has these answers on a new store, and how long its segment is then.
 fn answers<S: Store + Drop>(alloc: Global, list: (&[u8], &[u8])) -> Option<(bool, u64)> {
     let (letters, wanted) = list;
     let (answers, disk) = play(alloc, S::empty(alloc), letters)?;
@@ -184,8 +184,8 @@ fn letters_by(alloc: Global, seed: u64) -> Option<Vec<u8>> {
     Some(letters)
 }
 
-/// How many records a list of events acknowledged by its answers, and how many were applied, by means of how many each
-/// ticket saw. The answer that a batch is stored acknowledges its records, and so does a reply that saw them.
+/// Returns how many records a list of events acknowledged by its answers, and how many were applied, by means of how
+/// many each ticket saw. The answer that a batch is stored acknowledges its records, and so does a reply that saw them.
 fn count_acknowledged(
     seen: &mut Vec<u64>,
     letters: &[u8],
@@ -209,13 +209,13 @@ fn count_acknowledged(
     Ok((acknowledged, applied))
 }
 
-/// How many records a list of events acknowledged by its answers, and how many were applied.
+/// Returns how many records a list of events acknowledged by its answers, and how many were applied.
 pub(crate) fn bounds(alloc: Global, letters: &[u8], answers: &[u8]) -> Option<(u64, u64)> {
     let mut seen = Vec::new(alloc);
     count_acknowledged(&mut seen, letters, answers).ok()
 }
 
-/// How many records the call of a letter has.
+/// Returns how many records the call of a letter has.
 fn record_count(letter: u8) -> u64 {
     match letter {
         b'a' | b's' => 1,
@@ -223,13 +223,13 @@ fn record_count(letter: u8) -> u64 {
     }
 }
 
-/// How many records the ticket of a letter saw.
+/// Returns how many records the ticket of a letter saw.
 fn seen_by(seen: &[u64], letter: u8) -> u64 {
     let ticket = letter.wrapping_sub(b'0');
     seen.get(ticket as usize).copied().unwrap_or(0)
 }
 
-/// How many of the first records are allocations, by the letters of their calls.
+/// Returns how many of the first records are allocations, by the letters of their calls.
 fn allocations(letters: &[u8], answers: &[u8], records: u64) -> u64 {
     let (mut left, mut count) = (records, 0u64);
     for (letter, answer) in letters.iter().zip(answers) {
@@ -241,22 +241,23 @@ fn allocations(letters: &[u8], answers: &[u8], records: u64) -> u64 {
     count
 }
 
-/// How many ports space 1 has, by the name of the next one, which is allocated and stored, and the disk after it.
+/// Returns how many ports space 1 has, by the name of the next one, which is allocated and stored, and the disk after
+/// it.
 pub(crate) fn count_ports<S: Store + Drop>(alloc: Global, disk: S) -> Option<(u64, S)> {
     let (answers, disk) = play(alloc, disk, b"akwd0")?;
     let last = answers.last().copied().unwrap_or(0);
     Some((u64::from(last.wrapping_sub(b'A')), disk))
 }
 
-/// How many records a store has, and how many ports space 1 has after them.
+/// Returns how many records a store has, and how many ports space 1 has after them.
 fn found<S: Store + Drop>(alloc: Global, disk: S) -> Option<(u64, u64)> {
     let (ports, disk) = count_ports(alloc, disk)?;
     let records = stored_records(alloc, disk)?.saturating_sub(1);
     Some((records, ports))
 }
 
-/// Whether a list of events on this disk leaves no fewer records than it acknowledged and no more than it applied, and
-/// the state after them; and whether one of them met a fault.
+/// Returns whether a list of events on this disk leaves no fewer records than it acknowledged and no more than it
+/// applied, and the state after them; and whether one of them met a fault.
 fn is_bounded<S: Store + Drop>(alloc: Global, disk: S, letters: &[u8]) -> Option<(bool, bool)> {
     let (answers, disk) = play(alloc, disk, letters)?;
     let found = found(alloc, disk);
@@ -274,7 +275,7 @@ fn is_bounded<S: Store + Drop>(alloc: Global, disk: S, letters: &[u8]) -> Option
 /// Opening a store makes fifteen device calls, and each append four.
 pub(crate) const FIRST_CALL: u64 = 16;
 
-/// How many device calls a list makes after those of the opening, by its answers if none fails.
+/// Returns how many device calls a list makes after those of the opening, by its answers if none fails.
 fn device_calls(letters: &[u8], answers: &[u8]) -> u64 {
     let mut calls = 0u64;
     for (letter, answer) in letters.iter().zip(answers) {
@@ -285,8 +286,8 @@ fn device_calls(letters: &[u8], answers: &[u8]) -> u64 {
     calls
 }
 
-/// How many device calls a list makes until none fails that is planned to, if what each failure leaves is within its
-/// bounds.
+/// Returns how many device calls a list makes until none fails that is planned to, if what each failure leaves is
+/// within its bounds.
 fn swept<S: Store + Drop>(alloc: Global, letters: &[u8], once: bool, torn: Torn) -> Option<u64> {
     for calls in 0..400u64 {
         let disk: S = failing(alloc, FIRST_CALL.saturating_add(calls), once, torn)?;
@@ -313,7 +314,7 @@ pub(crate) static KINDS: [Torn; 6] = [
 /// A way to fail, and how many device calls were swept in it, if a list could be.
 pub(crate) type Way = (Torn, bool, Option<u64>);
 
-/// How many device calls a list makes on a new store.
+/// Returns how many device calls a list makes on a new store.
 fn calls_of<S: Store + Drop>(alloc: Global, letters: &[u8]) -> Option<u64> {
     let (answers, _) = play(alloc, new_store::<S>(alloc)?, letters)?;
     Some(device_calls(letters, &answers))

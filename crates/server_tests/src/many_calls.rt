@@ -28,18 +28,18 @@ fn repeated(alloc: Global, bytes: &[u8], times: usize) -> Option<Vec<u8>> {
     Some(all)
 }
 
-/// Whether a connection came to its end with this output.
+/// Returns whether a connection came to its end with this output.
 fn has_output(run: &Run, wanted: &[u8]) -> bool {
     run.end.is_ok() && run.output.as_slice() == wanted
 }
 
-/// Whether an input gets these answers, to its end.
+/// Returns whether an input gets these answers, to its end.
 fn is_answered<C: Caller>(alloc: Global, caller: &mut C, input: &[u8], wanted: &[u8]) -> bool {
     let run = serve_on(alloc, caller, input);
     has_output(&run, wanted)
 }
 
-/// Whether an input gets these answers `times` times.
+/// Returns whether an input gets these answers `times` times.
 fn are_answered<C: Caller>(
     alloc: Global,
     caller: &mut C,
@@ -55,15 +55,15 @@ fn are_answered<C: Caller>(
     true
 }
 
-/// Whether `thousands` thousands of calls are each answered with code 0.
+/// Returns whether `thousands` thousands of calls are each answered with code 0.
 fn are_done<C: Caller>(alloc: Global, caller: &mut C, thousands: u32) -> Option<bool> {
     let input = repeated(alloc, &SET, AT_ONCE)?;
     let wanted = repeated(alloc, &SET_DONE, AT_ONCE)?;
     Some(are_answered(alloc, caller, &input, &wanted, thousands))
 }
 
-/// Whether the first call is done on a new store, and 70,000 after it; then two epochs have ended, and the third one's
-/// segment, in the first one's slot, has the rest: its length.
+/// Returns whether the first call is done on a new store, and 70,000 after it; then two epochs have ended, and the
+/// third one's segment, in the first one's slot, has the rest: its length.
 fn go_on<D: Disk + Drop>(alloc: Global, disk: D) -> Option<(bool, Option<bool>, u64)> {
     let mut caller = caller(alloc, disk).ok()?;
     let is_begun = is_answered(alloc, &mut caller, &ALLOCATE, &ALLOCATED);

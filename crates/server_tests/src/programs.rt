@@ -30,14 +30,14 @@ fn run(rt: &HostRuntime, words: Option<&[String]>, bytes: &[u8]) -> Ended {
     }
 }
 
-/// Whether a run ended with this status, and wrote this to each of the two.
+/// Returns whether a run ended with this status, and wrote this to each of the two.
 pub(crate) fn has_ended(ended: &Ended, status: u8, output: &[u8], errors: &str) -> bool {
     ended.status == status
         && ended.output.as_slice() == output
         && ended.errors.as_slice() == errors.as_bytes()
 }
 
-/// Whether a run with this input ends in this way.
+/// Returns whether a run with this input ends in this way.
 pub(crate) fn ends(
     rt: &HostRuntime,
     words: Option<&[String]>,
@@ -69,7 +69,7 @@ pub(crate) fn folder(rt: &HostRuntime, name: &str) -> Option<Vec<String>> {
     Some(words)
 }
 
-/// Whether the folder could be removed.
+/// Returns whether the folder could be removed.
 fn removed(rt: &HostRuntime, words: &[String]) -> bool {
     match words {
         [path] => fs::remove_dir_all(rt, path.as_str()).is_ok(),
@@ -113,7 +113,7 @@ impl<'a> Env for Line<'a> {
     }
 }
 
-/// Whether a program that was started by such a line ends with this status and this line of errors.
+/// Returns whether a program that was started by such a line ends with this status and this line of errors.
 fn is_acknowledged(rt: &HostRuntime, bytes: &[u8], status: u8, line: &str) -> bool {
     let words = read_words(&(Line { bytes }, rt.alloc()));
     ends(rt, words.as_deref(), &ALLOCATE, (status, &[], line))
@@ -158,7 +158,7 @@ static DAMAGED: [u8; 48] = [
     0, 0, 0, 0, 0, 0, 0, 0, 0, 0, 0, 0, 0, 0, 0, 0, 0,
 ];
 
-/// Whether a store gets that image, what is reported of it, and whether its folder could be removed.
+/// Returns whether a store gets that image, what is reported of it, and whether its folder could be removed.
 fn tells_damage_in(rt: &HostRuntime, name: &str) -> Option<(Option<()>, [bool; 2])> {
     let words = folder(rt, name)?;
     let written = write_file(rt, &words, "image0", &DAMAGED);
@@ -209,7 +209,7 @@ fn run_into(rt: &HostRuntime, words: &[String], bytes: &[u8], room: usize) -> En
     }
 }
 
-/// Whether calls whose replies aren't taken beyond `room` bytes end with that fault's line.
+/// Returns whether calls whose replies aren't taken beyond `room` bytes end with that fault's line.
 fn tells_writer(
     rt: &HostRuntime,
     words: &[String],
@@ -247,7 +247,7 @@ fn length(rt: &HostRuntime, words: &[String], file: &str) -> Option<usize> {
     Some(fs::read(rt, path.as_str()).ok()?.len())
 }
 
-/// Whether a run ends well with this output, and the lengths of the image's and the segment's file then.
+/// Returns whether a run ends well with this output, and the lengths of the image's and the segment's file then.
 fn answered(
     rt: &HostRuntime,
     words: &[String],

@@ -66,7 +66,7 @@ fn tired<S: Store + Drop>(alloc: Global, bears: u32) -> Option<(Run, usize)> {
     Some(serve_tiring(alloc, caller, bears, &three_calls()))
 }
 
-/// Whether only the two allocations were answered.
+/// Returns whether only the two allocations were answered.
 fn has_two_replies(run: &Run) -> bool {
     match run.output.split_at_checked(16) {
         Some((first, second)) => first == ALLOCATED.as_slice()

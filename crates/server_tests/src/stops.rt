@@ -7,7 +7,7 @@ use ipc_model::{PlainReply, Reply};
 use server::{Opened, open};
 use std::alloc::Global;
 
-/// Whether a name has this type.
+/// Returns whether a name has this type.
 fn has_type<D: Disk>(opened: &Opened<D>, name: u32, bits: u32) -> bool {
     match opened.kernel.port_type(1, name) {
         Reply::Plain(PlainReply::Type { bits: acknowledged }) => acknowledged == bits,
@@ -55,7 +55,7 @@ fn stopped<S: Store + Drop>(alloc: Global, stop_at: u64, torn: Torn) -> (u64, Op
     }
 }
 
-/// Whether a crash at this device call left what was answered.
+/// Returns whether a crash at this device call left what was answered.
 fn is_left(stop_at: u64, seen: (u64, Option<Known>)) -> bool {
     let (acknowledged, Some((found, port, set))) = seen else {
         return false;

@@ -229,7 +229,7 @@ pub(crate) fn failing<S: Store + Drop>(
     Some(disk)
 }
 
-/// How many records a store has.
+/// Returns how many records a store has.
 pub(crate) fn stored_records<D: Disk + Drop>(alloc: Global, disk: D) -> Option<u64> {
     let (_, records) = reopened(alloc, disk);
     records

@@ -121,7 +121,7 @@ fn whole<S: Store + Drop>(alloc: Global) -> Option<Run> {
     Some(run)
 }
 
-/// Whether three calls byte by byte end well, and return what they return at once; and how many bytes that is.
+/// Returns whether three calls byte by byte end well, and return what they return at once; and how many bytes that is.
 fn dripped_as_whole<S: Store + Drop>(alloc: Global, seen: &Seen) -> Option<(bool, usize)> {
     let all = whole::<S>(alloc)?;
     let (run, _) = dripped::<S>(alloc, 1000, seen)?;

@@ -43,12 +43,12 @@ fn lengths<D: Disk>(disk: &D) -> [u64; 4] {
     ]
 }
 
-/// Whether a store is listed in these lines.
+/// Returns whether a store is listed in these lines.
 fn has_lines<D: Disk>(alloc: Global, disk: &mut D, lines: &[u8]) -> bool {
     lines_of(alloc, disk).as_deref() == Some(lines)
 }
 
-/// Whether input is answered with this output, the lengths of the slots then, and the disk.
+/// Returns whether input is answered with this output, the lengths of the slots then, and the disk.
 fn answered<S: Store + Drop>(
     alloc: Global,
     disk: S,

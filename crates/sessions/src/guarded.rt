@@ -127,12 +127,13 @@ impl<L: Founding> KernelGuarded<L> {
         self.keeper.take().ok().flatten()
     }
 
-    /// Whether only a few records wait to be stored, and a turn has come that wasn't taken yet and may make one more.
+    /// Returns whether only a few records wait to be stored, and a turn has come that wasn't taken yet and may make one
+    /// more.
     pub(crate) fn may_soon_have_more(&self) -> bool {
         self.fresh <= FEW_RECORDS && self.waiters.are_due()
     }
 
-    /// Whether a turn has come that wasn't taken yet.
+    /// Returns whether a turn has come that wasn't taken yet.
     pub(crate) fn has_turns_due(&self) -> bool {
         self.waiters.are_due()
     }
@@ -147,7 +148,7 @@ impl<L: Founding> KernelGuarded<L> {
         self.waiters.turns().take(worker, due)
     }
 
-    /// Whether a session's call waits, in line or with its turn.
+    /// Returns whether a session's call waits, in line or with its turn.
     pub(crate) fn is_waiting(&self, session: u32) -> bool {
         self.waiters.has(session)
     }
@@ -169,22 +170,22 @@ impl<L: Founding> KernelGuarded<L> {
         self.fault
     }
 
-    /// Whether nothing waits to be stored, and the loops go on.
+    /// Returns whether nothing waits to be stored, and the loops go on.
     pub(crate) fn is_idle(&self) -> bool {
         !self.is_stopping && self.fault.is_none() && !self.keeper.is_waiting()
     }
 
-    /// Whether the loop that stores is to end: after a fault, or once nothing waits any more.
+    /// Returns whether the loop that stores is to end: after a fault, or once nothing waits any more.
     pub(crate) fn is_over(&self) -> bool {
         self.fault.is_some() || (self.is_stopping && !self.keeper.is_waiting())
     }
 
-    /// Whether the epoch log has fewer records than these, and the loops go on.
+    /// Returns whether the epoch log has fewer records than these, and the loops go on.
     pub(crate) fn is_short(&self, records: u64) -> bool {
         !self.is_ending() && self.keeper.log_length() < records
     }
 
-    /// Whether the loop that makes images has something to do.
+    /// Returns whether the loop that makes images has something to do.
     pub(crate) fn has_image_due(&self) -> bool {
         match self.image_records {
             Some(records) => records <= self.keeper.log_length(),
@@ -192,12 +193,12 @@ impl<L: Founding> KernelGuarded<L> {
         }
     }
 
-    /// Whether the loop that makes images is to end.
+    /// Returns whether the loop that makes images is to end.
     pub(crate) fn is_ending(&self) -> bool {
         self.fault.is_some() || self.is_stopping
     }
 
-    /// Whether the epoch log is full, and the next epoch will begin.
+    /// Returns whether the epoch log is full, and the next epoch will begin.
     pub(crate) fn awaits_epoch(&self) -> bool {
         self.image_records.is_some() && !self.is_ending() && self.keeper.log_length() >= MAX_RECORDS
     }
@@ -227,7 +228,7 @@ impl<L: Founding> KernelGuarded<L> {
     }
 }
 
-/// Whether a call was answered that it found nothing to do.
+/// Returns whether a call was answered that it found nothing to do.
 fn finds_nothing(made: &Result<Ticket, SessionFault>) -> bool {
     match made {
         Ok(ticket) => match ticket.message_code() {

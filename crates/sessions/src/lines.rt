@@ -18,7 +18,7 @@ impl Lines {
         }
     }
 
-    /// Whether no call stands in line.
+    /// Returns whether no call stands in line.
     pub(crate) fn are_empty(&self) -> bool {
         self.sessions.is_empty()
     }

@@ -6,7 +6,7 @@ use std::sync::Arc;
 
 /// The task that a session's calls are made for.
 pub trait Peer: Drop {
-    /// Whether it has gone, so that no one will read a reply.
+    /// Returns whether it has gone, so that no one will read a reply.
     fn is_gone(&self) -> bool;
 }
 

@@ -57,12 +57,12 @@ impl<'a, L: Founding> Turn<'a, L> {
         }
     }
 
-    /// How many records were made in it.
+    /// Returns how many records were made in it.
     pub fn made(&self) -> u64 {
         self.guarded.keeper.made().saturating_sub(self.before)
     }
 
-    /// Whether the next call has to wait for an epoch, which doesn't begin while the lock is held.
+    /// Returns whether the next call has to wait for an epoch, which doesn't begin while the lock is held.
     pub fn awaits_epoch(&self) -> bool {
         self.guarded.awaits_epoch()
     }
@@ -77,7 +77,7 @@ impl<'a, L: Founding> Turn<'a, L> {
         Ok(())
     }
 
-    /// Whether a session's call waits in line, or its turn has come.
+    /// Returns whether a session's call waits in line, or its turn has come.
     pub fn is_waiting(&self, session: u32) -> bool {
         self.guarded.is_waiting(session)
     }

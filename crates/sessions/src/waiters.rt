@@ -58,17 +58,17 @@ impl Waiters {
         &mut self.turns
     }
 
-    /// Whether no call stands in line.
+    /// Returns whether no call stands in line.
     pub(crate) fn are_none(&self) -> bool {
         self.sends.are_empty() && self.receives.are_empty()
     }
 
-    /// Whether a turn has come that wasn't taken yet.
+    /// Returns whether a turn has come that wasn't taken yet.
     pub(crate) fn are_due(&self) -> bool {
         self.due != 0
     }
 
-    /// Whether a session's call waits.
+    /// Returns whether a session's call waits.
     pub(crate) fn has(&self, session: u32) -> bool {
         self.by_session.contains_key(&session)
     }

@@ -39,7 +39,7 @@ impl Flag {
         false
     }
 
-    /// Whether it is set while this thread gives way to others this many times.
+    /// Returns whether it is set while this thread gives way to others this many times.
     pub(crate) fn comes_in_turns(&self, turns: u32) -> bool {
         for _ in 0..turns {
             if self.is_set() {

@@ -138,7 +138,8 @@ fn is_first_or_none(name: Option<u32>) -> bool {
     name.is_none() || name == Some(0x100)
 }
 
-/// Whether the call was made once: whoever was given a name was given the first one, and after the crash everybody is.
+/// Returns whether the call was made once: whoever was given a name was given the first one, and after the crash
+/// everybody is.
 fn is_once(seen: &Option<Seen>) -> bool {
     let Some((Some((first, second, _)), Some(after))) = seen else {
         return false;

@@ -35,7 +35,7 @@ pub(crate) trait Service {
     /// fails, if it hasn't seen that place, or if another call's record stands there.
     fn name_read(session: &mut Self::Session, at: usize) -> Option<u32>;
 
-    /// How many records two sessions have seen once they met. `None` if they couldn't.
+    /// Returns how many records two sessions have seen once they met. `None` if they couldn't.
     fn seen_together(one: Self::Session, other: Self::Session) -> Option<[usize; 2]>;
 
     /// The loop that stores calls.
@@ -47,8 +47,8 @@ pub(crate) trait Service {
     /// Tells the loops to end.
     fn end<R: Wait>(&self, rt: &R);
 
-    /// How many sessions were made, how many records they made, and how many of these are stored, once all is closed.
-    /// `None` if these sessions don't match.
+    /// Returns how many sessions were made, how many records they made, and how many of these are stored, once all is
+    /// closed. `None` if these sessions don't match.
     fn counts_closed(self, sessions: Vec<Self::Session>) -> Option<[u64; 3]>;
 }
 

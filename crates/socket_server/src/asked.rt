@@ -41,14 +41,14 @@ impl Asked {
         (self.ticket, self.shown)
     }
 
-    /// How many records its reply saw.
+    /// Returns how many records its reply saw.
     pub fn seen(&self) -> u64
         ensures { result ≡ self.now.ticket.seen }
     {
         self.ticket.seen()
     }
 
-    /// Whether what was asked was done, which is code 0.
+    /// Returns whether what was asked was done, which is code 0.
     #[tactic(auto, using(crate::proofs::Showing::attach_is_not_done, crate::proofs::Showing::confine_is_done))]
     pub(crate) fn is_done(&self) -> bool
         ensures { result ≡ succeeded (answer_of self.now) }
@@ -60,7 +60,7 @@ impl Asked {
         }
     }
 
-    /// Whether the call found nothing to do: there was no message, or no room in the queue.
+    /// Returns whether the call found nothing to do: there was no message, or no room in the queue.
     #[tactic(auto, using(crate::proofs::Showing::shown_is_timed_out))]
     pub(crate) fn is_timed_out(&self) -> bool
         ensures { result ≡ timed_out (answer_of self.now) }

@@ -30,7 +30,7 @@ fn bind_again<R: Files + Net>(rt: &R, path: &str) -> Option<UnixListener> {
     UnixListener::bind(rt, path).ok()
 }
 
-/// Whether no server listens at a socket's file.
+/// Returns whether no server listens at a socket's file.
 fn is_gone<R: Net>(rt: &R, path: &str) -> bool {
     match UnixStream::connect(rt, path) {
         Ok(_) => false,

@@ -24,12 +24,12 @@ impl<'a, L: Founding, D: Disk, G: Drop, R: Wait> Held<'a, L, D, G, R> {
         self.turn.take_due(worker, due)
     }
 
-    /// Whether a session's call waits in line, or its turn has come.
+    /// Returns whether a session's call waits in line, or its turn has come.
     pub fn is_waiting(&self, session: u32) -> bool {
         self.turn.is_waiting(session)
     }
 
-    /// How many records were made with the lock held.
+    /// Returns how many records were made with the lock held.
     pub fn made(&self) -> u64 {
         self.turn.made()
     }

@@ -115,7 +115,7 @@ impl KernelHalf {
         }
     }
 
-    /// How many records the epoch log has.
+    /// Returns how many records the epoch log has.
     pub fn log_length(&self) -> u64
         ensures { result ≡ self.now.log.length }
     {
@@ -136,7 +136,7 @@ impl KernelHalf {
         &self.kernel
     }
 
-    /// How many records were made since it began, in all epochs.
+    /// Returns how many records were made since it began, in all epochs.
     pub fn made(&self) -> u64
         ensures { result ≡ self.now.log.made }
     {
@@ -300,7 +300,7 @@ impl KernelHalf {
         self.is_cut = false;
     }
 
-    /// Whether all records that a ticket saw are stored, according to receipts.
+    /// Returns whether all records that a ticket saw are stored, according to receipts.
     pub fn is_due(&self, ticket: &Ticket) -> bool
         ensures { MatchBool result (ticket.now.seen ≤ self.now.handed) (self.now.handed < ticket.now.seen) }
     {

@@ -342,7 +342,7 @@ impl<D: Disk> System<D> {
         Ok(())
     }
 
-    /// Whether there is a ticket with this number, and all that it saw is stored.
+    /// Returns whether there is a ticket with this number, and all that it saw is stored.
     fn is_due(&self, number: u64) -> bool
         ensures { MatchBool result
             ((ticket : TicketValue) × (map.get self.now.tickets.kept number ≡ Some (Some ticket))

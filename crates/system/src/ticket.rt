@@ -38,14 +38,14 @@ impl Model for Ticket {
 }
 
 impl Ticket {
-    /// How many of the records that were made its call saw.
+    /// Returns how many of the records that were made its call saw.
     pub fn seen(&self) -> u64
         ensures { result ≡ self.now.seen }
     {
         self.seen
     }
 
-    /// Whether the call was done, which is code 0.
+    /// Returns whether the call was done, which is code 0.
     pub fn is_success(&self) -> bool
         ensures { result ≡ succeeded self.now.answer }
     {
@@ -114,7 +114,7 @@ impl Tickets {
         }
     }
 
-    /// How many were given.
+    /// Returns how many were given.
     pub(crate) fn given(&self) -> u64
         ensures { result ≡ self.now.given }
     {
