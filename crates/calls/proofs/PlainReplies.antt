@@ -13,7 +13,7 @@ use Rattle.ipc_model.specs.declared.plain_reply.PlainReply.{PlainReply}
 use Rattle.ipc_model.specs.declared.plain_reply.PlainReply.TheVariants as reply
 use Rattle.ipc_model.specs.calls.PlainStep.{number_of_call, is_recorded, has_record}
 use Rattle.ipc_laws.specs.EncodingLaws.{reply_encoding_once, word_once}
-use Rattle.ipc_model.specs.encodings.PlainCalls.{reply_encoding, done_encoding, number_of_reply, has_no_results, FitsReply, IsRecordedReply}
+use Rattle.ipc_model.specs.encodings.PlainCalls.{reply_encoding, done_encoding, number_of_reply, records_no_results, FitsReply, IsRecordedReply}
 use Rattle.words.specs.Words.{word}
 use Rattle.calls.specs.PlainReplies.{has_results, is_done, HasResults, Answers, IsWellFormed}
 use Rattle.calls.specs.Rows.{names_encoding}
@@ -332,7 +332,7 @@ code_reported n number code results answer number_fits code_fits fits is =
     (known.0, known.1 ∙ sym parts.1)
 
 -- replies in records answer their calls
-own_done : (c : PlainCall) → is_recorded c ≡ true → has_no_results c ≡ true → not (has_results (number_of_call c)) ≡ true
+own_done : (c : PlainCall) → is_recorded c ≡ true → records_no_results c ≡ true → not (has_results (number_of_call c)) ≡ true
 own_done (call.Attach space) recorded none = absurd (cc recorded)
 own_done call.Names recorded none = absurd (cc recorded)
 own_done (call.Type name) recorded none = absurd (cc recorded)

@@ -1,7 +1,7 @@
 ghost use Rattle.std.specs.Prelude.{true, false, ◌≡◌, ◌||◌, Some, IsTrue, IfOk, IfSome};
 ghost use Rattle.ipc_model.specs.declared.plain_reply.PlainReply.{PlainReply};
 ghost use Rattle.ipc_model.specs.calls.PlainStep.{has_destroyed, is_success, succeeded, destroyed_message};
-ghost use Rattle.ipc_model.specs.encodings.PlainCalls.{reply_encoding, has_no_results, Brings, HasItsResults, IsOfReceive, IsRecordedReply};
+ghost use Rattle.ipc_model.specs.encodings.PlainCalls.{reply_encoding, records_no_results, Brings, HasItsResults, IsOfReceive, IsRecordedReply};
 
 use crate::reply::read_plain_reply;
 use codes::{KernReturn, MACH_PORT_DEAD, MACH_PORT_NULL};
@@ -18,9 +18,9 @@ fn destroys(call: &PlainCall) -> bool
     }
 }
 
-/// Returns true if the call has no results when it is done.
-fn has_no_results(call: &PlainCall) -> bool
-    ensures { result ≡ has_no_results call.now }
+/// Returns true if a record of this call has a reply without results. Calls that have no records count as such.
+fn records_no_results(call: &PlainCall) -> bool
+    ensures { result ≡ records_no_results call.now }
 {
     !matches!(
         call,
@@ -101,7 +101,7 @@ fn is_recorded_reply(call: &PlainCall, answer: &PlainReply) -> bool
 {
     match answer {
         PlainReply::Refused { .. } => false,
-        PlainReply::Done { .. } => has_no_results(call),
+        PlainReply::Done { .. } => records_no_results(call),
         PlainReply::Message {
             code,
             size,

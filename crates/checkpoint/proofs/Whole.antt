@@ -1,13 +1,13 @@
 -- An image's encoding after the place of its header, then the whole image.
-use Rattle.std.proofs.Common.{◌≡◌, ℕ, ◌<◌, ◌≤◌, List, [], ◌∷◌, ◌++◌, length, take, drop, sym, ap, ◌∙◌, arith, append_assoc, length-append}
+use Rattle.std.proofs.Common.{◌≡◌, ℕ, ◌<◌, ◌≤◌, List, [], ◌∷◌, ◌++◌, length, take, drop, replicate, sym, ap, ◌∙◌, arith, append_assoc, length-append, length-drop, length-take}
 use Rattle.std.proofs.lemmas.List.{append-nil, drop_at}
 use Rattle.disk.specs.declared.slot.Slot.{Slot}
-use Rattle.disk.specs.Slots.{Slots, slot_of, with_slot}
+use Rattle.disk.specs.Slots.{Slots, slot_of, with_slot, written_at}
 use Rattle.ipc_model.specs.store.Store.{IsClosed, epoch_encoding, image_content, open_gate}
 use Rattle.words.specs.Words.{long_word}
 use Rattle.checkpoint.specs.Images.{HoldsAfter, open_image}
 use Rattle.slot_steps.proofs.Gates.{after_first}
-use Rattle.slot_steps.proofs.Lengths.{closed_cut, cut_length, own_of}
+use Rattle.slot_steps.proofs.Lengths.{closed_cut, closed_written, cut_length, own_of}
 use Rattle.disk.proofs.Moments.{with_twice}
 
 -- a slot that was truncated to the length of a header, with a closed gate
@@ -20,6 +20,28 @@ cut_to_header slot old new long shut is =
       long = cut_length (slot_of old slot) 24 long;
       shut = closed_cut (slot_of old slot) shut;
       whole = own_of slot old new front is ∙ sym (append-nil front);
+    }
+
+-- a slot that was extended to the length of a header by zeros after a closed gate
+pub extended_to_header : (slot : Slot) (old new : Slots) → 0 < length (slot_of old slot)
+    → length (slot_of old slot) ≤ 24 → IsClosed (slot_of old slot)
+    → new ≡ with_slot old slot (written_at (slot_of old slot) 1 (replicate 23 0)) → HoldsAfter (slot_of new slot) []
+extended_to_header slot old new some short shut is =
+    let before : List ℕ = slot_of old slot in
+    let bytes : List ℕ = written_at before 1 (replicate 23 0) in
+    let size : length bytes ≡ 24 =
+    omega (
+      arith,
+      length-append (take 1 before ++ replicate 23 0) (drop 24 before),
+      length-append (take 1 before) (replicate 23 0),
+      length-take 1 before,
+      length-drop 24 before,
+    ) in
+    record {
+      head = bytes;
+      long = size;
+      shut = closed_written before (replicate 23 0) some shut;
+      whole = own_of slot old new bytes is ∙ sym (append-nil bytes);
     }
 
 -- the bytes after the first one once the header is written

@@ -30,12 +30,12 @@ fn image_start(epoch: u64, length: u64) -> [u8; 23]
     ]
 }
 
-/// Writes zeros in place of an image's header, after the gate.
-fn write_zeros<D: Disk>(disk: &mut D, slot: Slot) -> Result<(), DiskFault>
-    requires { D.honest → 0 < length (slot_of (D.view disk.old).seen slot) }
-    ensures long { D.honest → OnOk result (24 ≤ length (slot_of (D.view disk.new).seen slot)) }
-    ensures closed { D.honest → IsClosed (slot_of (D.view disk.old).seen slot)
-        → OnOk result (IsClosed (slot_of (D.view disk.new).seen slot)) }
+/// Extends a closed slot that is too short for a header to a header's length, with zeros.
+fn extend<D: Disk>(disk: &mut D, slot: Slot) -> Result<(), DiskFault>
+    requires begun { D.honest → 0 < length (slot_of (D.view disk.old).seen slot) }
+    requires short { D.honest → length (slot_of (D.view disk.old).seen slot) ≤ 24 }
+    requires closed { D.honest → IsClosed (slot_of (D.view disk.old).seen slot) }
+    ensures cleared { D.honest → OnOk result (HoldsAfter (slot_of (D.view disk.new).seen slot) []) }
     ensures others { D.honest → OnOk result
         ((D.view disk.new).seen ≡ with_slot (D.view disk.old).seen slot (slot_of (D.view disk.new).seen slot)) }
     ensures shut { D.honest → IsShut (D.view disk.old) slot → OnOk result (IsShut (D.view disk.new) slot) }
@@ -47,7 +47,26 @@ fn write_zeros<D: Disk>(disk: &mut D, slot: Slot) -> Result<(), DiskFault>
     write_after(disk, slot, 1, &[0; 23])
 }
 
-/// Clears an image slot, which then holds a closed gate and zeros in place of a header.
+/// Truncates or extends a closed slot to a header's length.
+fn resize<D: Disk>(disk: &mut D, slot: Slot) -> Result<(), DiskFault>
+    requires begun { D.honest → 0 < length (slot_of (D.view disk.old).seen slot) }
+    requires closed { D.honest → IsClosed (slot_of (D.view disk.old).seen slot) }
+    ensures cleared { D.honest → OnOk result (HoldsAfter (slot_of (D.view disk.new).seen slot) []) }
+    ensures others { D.honest → OnOk result
+        ((D.view disk.new).seen ≡ with_slot (D.view disk.old).seen slot (slot_of (D.view disk.new).seen slot)) }
+    ensures shut { D.honest → IsShut (D.view disk.old) slot → OnOk result (IsShut (D.view disk.new) slot) }
+    ensures any_moment { D.honest → IsShut (D.view disk.old) slot
+        → Passes (D.view disk.old) (D.view disk.new) (Follows (D.view disk.old) slot IsStillClosed) }
+    ensures failures { CountsFailure (D.failed_calls disk.old) (D.failed_calls disk.new) result }
+    ensures calls { D.calls disk.new ≤ D.calls disk.old + 1 }
+{
+    if disk.length(slot) < IMAGE_HEADER as u64 {
+        return extend(disk, slot);
+    }
+    cut_after(disk, slot, IMAGE_HEADER as u64)
+}
+
+/// Clears an image slot. It then has the length of a header, and its gate is closed.
 pub(crate) fn clear<D: Disk>(disk: &mut D, slot: Slot) -> Result<(), DiskFault>
     ensures cleared { D.honest → OnOk result (HoldsAfter (slot_of (D.view disk.new).seen slot) []) }
     ensures others { D.honest → OnOk result
@@ -56,11 +75,10 @@ pub(crate) fn clear<D: Disk>(disk: &mut D, slot: Slot) -> Result<(), DiskFault>
     ensures any_moment { D.honest → IsSynced (D.view disk.old) slot
         → Passes (D.view disk.old) (D.view disk.new) (Follows (D.view disk.old) slot (IsClosing 24)) }
     ensures failures { CountsFailure (D.failed_calls disk.old) (D.failed_calls disk.new) result }
-    ensures calls { D.calls disk.new ≤ D.calls disk.old + 5 }
+    ensures calls { D.calls disk.new ≤ D.calls disk.old + 4 }
 {
     close_slot(disk, slot, IMAGE_HEADER)?;
-    write_zeros(disk, slot)?;
-    cut_after(disk, slot, 24)
+    resize(disk, slot)
 }
 
 /// Returns the number of pieces of an encoding.

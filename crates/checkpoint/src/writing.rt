@@ -85,7 +85,7 @@ impl Image {
             → Passes (D.view disk.old) (D.view disk.new)
             (Follows (D.view disk.old) (slot_of_epoch self.now.epoch) (IsClosing 24)) }
         ensures failures { CountsFailure (D.failed_calls disk.old) (D.failed_calls disk.new) result }
-        ensures calls { D.calls disk.new ≤ D.calls disk.old + 5 }
+        ensures calls { D.calls disk.new ≤ D.calls disk.old + 4 }
     {
         steps::clear(disk, image_slot(self.epoch))
     }

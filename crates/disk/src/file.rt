@@ -1,5 +1,6 @@
 // A disk in four files of a folder.
 ghost use Rattle.std.specs.Prelude.{◌≡◌, ◌≤◌, true, false, is_some, length, take, IfOk, OnOk};
+ghost use Rattle.std.specs.String.{string_bytes};
 ghost use Rattle.disk.specs.Folders.{AreNamesSynced, disk_of};
 ghost use Rattle.disk.specs.Moments.{Follows, IsSynced, MayLeave, Passes};
 ghost use Rattle.disk.specs.Slots.{Slots, TornCut, TornWrite, file_name, slot_of, with_slot, written_at};
@@ -48,6 +49,7 @@ impl<F: Folder> FileDisk<F> {
         ensures left { (c : Slots) → MayLeave (⟦<FileDisk<F> as Disk>⟧.view result) c
             → MayLeave (disk_of (F.view folder)) c }
         ensures failures { ⟦<FileDisk<F> as Disk>⟧.failed_calls result ≡ 0 }
+        ensures folder { result.folder ≡ folder }
     {
         FileDisk {
             folder,
@@ -62,7 +64,8 @@ impl<R: Files + Drop> FileDisk<HostFolder<R>> {
     /// The disk in a folder of the operating system. Its files are opened for reading only. The error is that the
     /// folder doesn't exist or isn't a folder, that something in it can't be opened as a file, or that memory ran out.
     pub fn at(alloc: Global, files: R, folder: &str) -> Result<FileDisk<HostFolder<R>>, DiskFault>
-        ensures { IfOk result (λ disk. ⟦<FileDisk<HostFolder<R>> as Disk>⟧.failed_calls disk ≡ 0) }
+        ensures failures { IfOk result (λ disk. ⟦<FileDisk<HostFolder<R>> as Disk>⟧.failed_calls disk ≡ 0) }
+        ensures path { IfOk result (λ disk. string_bytes disk.folder.path ≡ folder.now) }
     {
         let names = [
             Slot::Image0.file_name(),

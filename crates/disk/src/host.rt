@@ -1,5 +1,6 @@
 // A folder of the operating system.
 ghost use Rattle.std.specs.Prelude.{◌≡◌, ◌≤◌, false, length, IfOk};
+ghost use Rattle.std.specs.String.{string_bytes};
 ghost use Rattle.disk.specs.Files.{FilesKeepModel, folder_view};
 
 use crate::{Folder, FolderFault};
@@ -33,7 +34,8 @@ impl<R: Files + Drop> HostFolder<R> {
     /// Opens the files of these names that are in a folder. The error is that the folder doesn't exist or isn't a
     /// folder, that something of these names can't be opened as a file, or that memory ran out.
     pub fn open(alloc: Global, files: R, path: &str, names: &[&str]) -> io::Result<HostFolder<R>>
-        ensures { IfOk result (λ folder. (⟦<HostFolder<R> as Folder>⟧.view folder).has_lost ≡ false) }
+        ensures lost { IfOk result (λ folder. (⟦<HostFolder<R> as Folder>⟧.view folder).has_lost ≡ false) }
+        ensures path { IfOk result (λ folder. string_bytes folder.path ≡ path.now) }
     {
         if !fs::metadata(&files, path)?.is_dir() {
             return Err(ErrorKind::NotADirectory.into());

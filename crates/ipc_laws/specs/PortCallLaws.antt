@@ -22,7 +22,7 @@ use Rattle.ipc_model.specs.state.Ipc.{Ipc, Names, received_port}
 use Rattle.ipc_model.specs.calls.PlainStep.{ActsIn, is_recorded, succeeded, has_record, number_of_call}
 use Rattle.ipc_laws.specs.StepLaws.{Called}
 use Rattle.ipc_model.specs.calls.Tests.{first_failing}
-use Rattle.ipc_model.specs.encodings.PlainCalls.{has_no_results, number_of_reply, HasItsResults}
+use Rattle.ipc_model.specs.encodings.PlainCalls.{records_no_results, number_of_reply, HasItsResults}
 
 -- every call except sends and receives
 abbrev pub is_port_call : PlainCall → Bool
@@ -53,7 +53,7 @@ number_has_none n =
     n == MACH_MSG || n == SPACE_CREATE
     )
 
-none_by_number : (c : PlainCall) → has_no_results c ≡ number_has_none (number_of_call c)
+none_by_number : (c : PlainCall) → records_no_results c ≡ number_has_none (number_of_call c)
 none_by_number (call.Allocate kind) = refl
 none_by_number c = refl
 

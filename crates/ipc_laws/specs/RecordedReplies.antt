@@ -10,7 +10,7 @@ use Rattle.ipc_model.specs.declared.plain_call.PlainCall.TheVariants as call
 use Rattle.ipc_model.specs.declared.plain_reply.PlainReply.{PlainReply}
 use Rattle.ipc_model.specs.declared.plain_reply.PlainReply.TheVariants as reply
 use Rattle.ipc_model.specs.declared.message.RightKind.{RightKind}
-use Rattle.ipc_model.specs.encodings.PlainCalls.{has_no_results, IsMessageSize, IsRecordedReply}
+use Rattle.ipc_model.specs.encodings.PlainCalls.{records_no_results, IsMessageSize, IsRecordedReply}
 use Rattle.words.specs.Words.{AreBytes}
 
 -- a receive brought a message within its limit
@@ -116,7 +116,7 @@ to_table c (reply.Refused number code) is = absurd (cc is.recorded)
 to_table c (reply.Message code size member message) is = absurd is.results
 to_table c answer is = absurd (omega (arith, is.of_one_call))
 
-done_back : (c : PlainCall) (answer : PlainReply) → number_of_call c < 2 ^ 32 → has_no_results c ≡ true
+done_back : (c : PlainCall) (answer : PlainReply) → number_of_call c < 2 ^ 32 → records_no_results c ≡ true
     → IsTrue (has_record c (reply.Done (number_of_call c))) → answer ≡ reply.Done (number_of_call c)
     → IsRecordedReply c answer
 done_back c answer small none recorded is =

@@ -96,7 +96,7 @@ impl<L: Founding, D: Disk> StoreKeeper<L, D> {
         ensures done { CloseImageDone D.honest D.view self.old.store self.new.store result }
         ensures faults { CloseImageFaults D.honest D.view self.old.store self.new.store result }
         ensures failures { D.failed_calls self.new.store.disk ≡ counted result (D.failed_calls self.old.store.disk) }
-        ensures calls { D.calls self.new.store.disk ≤ D.calls self.old.store.disk + 5 }
+        ensures calls { D.calls self.new.store.disk ≤ D.calls self.old.store.disk + 4 }
         ensures rest { self.new ≡ record self.old { store = self.new.store } }
         ensures any_moment { D.honest → LosesNothing D.view L.base self.old self.new }
     {

@@ -16,7 +16,7 @@ use Rattle.ipc_model.specs.state.LawfulState.{IsKeptReply}
 use Rattle.ipc_laws.specs.RecordedReplies.{HasReply, replies_by_call}
 use Rattle.calls.specs.Replies.{Answers}
 use Rattle.calls.proofs.PlainReplies.{record_replies}
-use Rattle.kept_reply.specs.Kinds.{has_no_results, IsOfNumbered}
+use Rattle.kept_reply.specs.Kinds.{is_numbered_without_results, IsOfNumbered}
 
 -- some call that may be numbered has the reply in its record
 HasCall : PlainReply → Type 0
@@ -43,7 +43,7 @@ or_last : (front : Bool) (n m : ℕ) (c : PlainCall) → may_be_numbered c ≡ t
     → (front ≡ true → HasCall (reply.Done n)) → (front || n == m) ≡ true → HasCall (reply.Done n)
 or_last front n m c may has first is = or_else front (n == m) is first (done_of c n m may has)
 
-done_by : (n : ℕ) → has_no_results n ≡ true → HasCall (reply.Done n)
+done_by : (n : ℕ) → is_numbered_without_results n ≡ true → HasCall (reply.Done n)
 done_by n =
     or_last _ n MACH_PORT_INSERT_RIGHT (call.InsertRight 0 0 0) refl refl
     (or_last _ n MACH_PORT_MOVE_MEMBER (call.MoveMember 0 0) refl refl

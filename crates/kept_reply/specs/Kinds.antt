@@ -9,8 +9,8 @@ use Rattle.ipc_model.specs.declared.plain_reply.PlainReply.TheVariants as reply
 use Rattle.ipc_model.specs.encodings.PlainCalls.{IsMessageSize}
 
 -- the numbers of the calls without results that may be numbered
-abbrev pub has_no_results : ℕ → Bool
-has_no_results n =
+abbrev pub is_numbered_without_results : ℕ → Bool
+is_numbered_without_results n =
     n == MACH_PORT_RENAME || n == MACH_PORT_ALLOCATE_NAME || n == MACH_PORT_DESTROY || n == MACH_PORT_DEALLOCATE ||
     n == MACH_PORT_MOD_REFS || n == MACH_PORT_SET_QLIMIT || n == MACH_PORT_SET_MSCOUNT || n == MACH_PORT_SET_SEQNO ||
     n == MACH_PORT_MOVE_MEMBER || n == MACH_PORT_INSERT_RIGHT
@@ -32,7 +32,7 @@ IsReceived code size member message =
 
 -- The reply is of a kind that is recorded and may be to a numbered call.
 abbrev pub IsOfNumbered : PlainReply → Type 0
-IsOfNumbered (reply.Done number) = has_no_results number ≡ true
+IsOfNumbered (reply.Done number) = is_numbered_without_results number ≡ true
 IsOfNumbered (reply.Allocate name) = Unit {0}
 IsOfNumbered (reply.PreviousTarget name) = Unit {0}
 IsOfNumbered (reply.Extracted name kind) = Unit {0}

@@ -2,7 +2,7 @@ ghost use Rattle.std.specs.Prelude.{true, false, ◌≡◌, ◌⊎◌, ◌↔◌
 ghost use Rattle.ipc_model.specs.encodings.PlainCalls.{FitsReply};
 ghost use Rattle.ipc_model.specs.state.LawfulState.{IsKeptReply};
 ghost use Rattle.words.specs.Words.{AreBytes};
-ghost use Rattle.kept_reply.specs.Kinds.{has_no_results, IsOfNumbered, IsReceived, IsSent};
+ghost use Rattle.kept_reply.specs.Kinds.{is_numbered_without_results, IsOfNumbered, IsReceived, IsSent};
 
 use codes::{
     KernReturn, MACH_PORT_ALLOCATE_NAME, MACH_PORT_DEAD, MACH_PORT_DEALLOCATE, MACH_PORT_DESTROY,
@@ -55,8 +55,8 @@ fn in_range(reply: &PlainReply)
 }
 
 /// Returns true if calls with this number have no results and may be numbered.
-fn has_no_results(number: u32) -> bool
-    ensures { result ≡ has_no_results number }
+fn is_numbered_without_results(number: u32) -> bool
+    ensures { result ≡ is_numbered_without_results number }
 {
     matches!(
         number,
@@ -102,7 +102,7 @@ fn is_of_numbered(reply: &PlainReply) -> bool
     ensures no { result ≡ false → IsOfNumbered reply.now → ⊥ }
 {
     match reply {
-        PlainReply::Done { number } => has_no_results(*number),
+        PlainReply::Done { number } => is_numbered_without_results(*number),
         PlainReply::Allocate { .. }
         | PlainReply::PreviousTarget { .. }
         | PlainReply::Extracted { .. }

@@ -280,7 +280,7 @@ impl<D: Disk> StoreHalf<D> {
         ensures done { CloseImageDone D.honest D.view self.old self.new result }
         ensures faults { CloseImageFaults D.honest D.view self.old self.new result }
         ensures failures { D.failed_calls self.new.disk ≡ counted result (D.failed_calls self.old.disk) }
-        ensures calls { D.calls self.new.disk ≤ D.calls self.old.disk + 5 }
+        ensures calls { D.calls self.new.disk ≤ D.calls self.old.disk + 4 }
     {
         if self.failed {
             return Err(StoreFault::Failed);

@@ -5,8 +5,6 @@ use Rattle.system.specs.declared.event.Outcome.{Outcome}
 use Rattle.system.specs.declared.event.Outcome.TheVariants as outcome
 use Rattle.system.specs.declared.system.CallFault.{CallFault}
 use Rattle.system.specs.declared.system.CallFault.TheVariants.{Submit, Store}
-use Rattle.system.specs.declared.event.Event.{Event}
-use Rattle.system.specs.declared.event.Event.TheVariants as event
 pub use Rattle.store_half.specs.Counting.{counted, counted_fault}
 
 -- the count after a call with this result
@@ -29,8 +27,3 @@ counted_event outcome.NoMemory failures = failures
 abbrev pub counted_events : List Outcome → ℕ → ℕ
 counted_events [] failures = failures
 counted_events (answered ∷ outcomes) failures = counted_events outcomes (counted_event answered failures)
-
--- how many calls of the device an event makes at most: closing an image's slot looks at its gate first
-abbrev pub most_calls : Event → ℕ
-most_calls event.ImageClose = 5
-most_calls other = 4

@@ -71,7 +71,7 @@ impl<D: Disk> System<D> {
         ensures done { CloseImageDone D.honest D.view self.old.store self.new.store result }
         ensures faults { CloseImageFaults D.honest D.view self.old.store self.new.store result }
         ensures failures { D.failed_calls self.new.store.disk ≡ counted result (D.failed_calls self.old.store.disk) }
-        ensures calls { D.calls self.new.store.disk ≤ D.calls self.old.store.disk + 5 }
+        ensures calls { D.calls self.new.store.disk ≤ D.calls self.old.store.disk + 4 }
         ensures rest { self.new ≡ record self.old { store = self.new.store } }
     {
         self.store.close_image(self.alloc)

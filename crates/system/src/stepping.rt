@@ -3,7 +3,7 @@ ghost use Rattle.std.specs.Prelude.{◌≡◌, IfOk, OnErr, ◌≤◌, ◌+◌};
 ghost use Rattle.ipc_model.specs.state.State.{State};
 ghost use Rattle.ipc_model.specs.world.World.{World};
 ghost use Rattle.system.specs.Core.{IsNumbered, RunsThrough, Simulates, StandsFor};
-ghost use Rattle.system.specs.Counting.{counted_event, counted_events, most_calls};
+ghost use Rattle.system.specs.Counting.{counted_event, counted_events};
 
 use crate::event::{Event, Outcome};
 use crate::kernel_half::SubmitFault;
@@ -16,14 +16,13 @@ impl<D: Disk> System<D> {
     /// One event, which is one of the specified events (`Simulates`): its answer is one that the specification allows,
     /// and the core stands for the world after it. On an honest disk, a crash at any moment of it leaves the state
     /// after a prefix of the calls that are applied after it, no fewer than were acknowledged before it; a crash after
-    /// it, no fewer than were acknowledged after it. It makes four calls of the device at most, and where it closes an
-    /// image's slot five (`most_calls`).
+    /// it, no fewer than were acknowledged after it. It makes at most four calls of the device.
     pub fn step(&mut self, event: &Event) -> Outcome
         ensures steps { Simulates D.honest D.view event.now result self.old self.new }
         ensures number { IsNumbered self.old result }
         ensures failures { D.failed_calls self.new.store.disk
             ≡ counted_event result (D.failed_calls self.old.store.disk) }
-        ensures calls { D.calls self.new.store.disk ≤ D.calls self.old.store.disk + most_calls event.now }
+        ensures calls { D.calls self.new.store.disk ≤ D.calls self.old.store.disk + 4 }
     {
         match event {
             Event::Submit { space, call } => self.submit_event(*space, call),
@@ -65,7 +64,7 @@ impl<D: Disk> System<D> {
         ensures failures { D.failed_calls self.new.store.disk
             ≡ counted_event result (D.failed_calls self.old.store.disk) }
         ensures calls { D.calls self.new.store.disk
-            ≤ D.calls self.old.store.disk + most_calls (Event.Submit space call.now) }
+            ≤ D.calls self.old.store.disk + 4 }
     {
         match self.submit(space, call) {
             Ok(number) => Outcome::Ticket(number),
@@ -79,7 +78,7 @@ impl<D: Disk> System<D> {
         ensures number { IsNumbered self.old result }
         ensures failures { D.failed_calls self.new.store.disk
             ≡ counted_event result (D.failed_calls self.old.store.disk) }
-        ensures calls { D.calls self.new.store.disk ≤ D.calls self.old.store.disk + most_calls Event.Take }
+        ensures calls { D.calls self.new.store.disk ≤ D.calls self.old.store.disk + 4 }
     {
         if self.take() {
             return Outcome::Done;
@@ -92,7 +91,7 @@ impl<D: Disk> System<D> {
         ensures number { IsNumbered self.old result }
         ensures failures { D.failed_calls self.new.store.disk
             ≡ counted_event result (D.failed_calls self.old.store.disk) }
-        ensures calls { D.calls self.new.store.disk ≤ D.calls self.old.store.disk + most_calls Event.Append }
+        ensures calls { D.calls self.new.store.disk ≤ D.calls self.old.store.disk + 4 }
     {
         match self.append() {
             Ok(true) => Outcome::Done,
@@ -106,7 +105,7 @@ impl<D: Disk> System<D> {
         ensures number { IsNumbered self.old result }
         ensures failures { D.failed_calls self.new.store.disk
             ≡ counted_event result (D.failed_calls self.old.store.disk) }
-        ensures calls { D.calls self.new.store.disk ≤ D.calls self.old.store.disk + most_calls Event.Durable }
+        ensures calls { D.calls self.new.store.disk ≤ D.calls self.old.store.disk + 4 }
     {
         if self.durable() {
             return Outcome::Done;
@@ -119,7 +118,7 @@ impl<D: Disk> System<D> {
         ensures number { IsNumbered self.old result }
         ensures failures { D.failed_calls self.new.store.disk
             ≡ counted_event result (D.failed_calls self.old.store.disk) }
-        ensures calls { D.calls self.new.store.disk ≤ D.calls self.old.store.disk + most_calls (Event.Reply ticket) }
+        ensures calls { D.calls self.new.store.disk ≤ D.calls self.old.store.disk + 4 }
     {
         match self.reply(ticket) {
             Some(reply) => Outcome::Reply(reply),
@@ -132,7 +131,7 @@ impl<D: Disk> System<D> {
         ensures number { IsNumbered self.old result }
         ensures failures { D.failed_calls self.new.store.disk
             ≡ counted_event result (D.failed_calls self.old.store.disk) }
-        ensures calls { D.calls self.new.store.disk ≤ D.calls self.old.store.disk + most_calls Event.Cut }
+        ensures calls { D.calls self.new.store.disk ≤ D.calls self.old.store.disk + 4 }
     {
         match self.cut() {
             Ok(true) => Outcome::Done,
@@ -146,7 +145,7 @@ impl<D: Disk> System<D> {
         ensures number { IsNumbered self.old result }
         ensures failures { D.failed_calls self.new.store.disk
             ≡ counted_event result (D.failed_calls self.old.store.disk) }
-        ensures calls { D.calls self.new.store.disk ≤ D.calls self.old.store.disk + most_calls Event.RollClose }
+        ensures calls { D.calls self.new.store.disk ≤ D.calls self.old.store.disk + 4 }
     {
         match self.roll_close() {
             Ok(true) => Outcome::Done,
@@ -160,7 +159,7 @@ impl<D: Disk> System<D> {
         ensures number { IsNumbered self.old result }
         ensures failures { D.failed_calls self.new.store.disk
             ≡ counted_event result (D.failed_calls self.old.store.disk) }
-        ensures calls { D.calls self.new.store.disk ≤ D.calls self.old.store.disk + most_calls Event.RollHead }
+        ensures calls { D.calls self.new.store.disk ≤ D.calls self.old.store.disk + 4 }
     {
         match self.roll_head() {
             Ok(true) => Outcome::Done,
@@ -174,7 +173,7 @@ impl<D: Disk> System<D> {
         ensures number { IsNumbered self.old result }
         ensures failures { D.failed_calls self.new.store.disk
             ≡ counted_event result (D.failed_calls self.old.store.disk) }
-        ensures calls { D.calls self.new.store.disk ≤ D.calls self.old.store.disk + most_calls Event.RollOpen }
+        ensures calls { D.calls self.new.store.disk ≤ D.calls self.old.store.disk + 4 }
     {
         match self.roll_open() {
             Ok(true) => Outcome::Done,
@@ -188,7 +187,7 @@ impl<D: Disk> System<D> {
         ensures number { IsNumbered self.old result }
         ensures failures { D.failed_calls self.new.store.disk
             ≡ counted_event result (D.failed_calls self.old.store.disk) }
-        ensures calls { D.calls self.new.store.disk ≤ D.calls self.old.store.disk + most_calls Event.ImageClose }
+        ensures calls { D.calls self.new.store.disk ≤ D.calls self.old.store.disk + 4 }
     {
         match self.close_image() {
             Ok(true) => Outcome::Done,
@@ -202,7 +201,7 @@ impl<D: Disk> System<D> {
         ensures number { IsNumbered self.old result }
         ensures failures { D.failed_calls self.new.store.disk
             ≡ counted_event result (D.failed_calls self.old.store.disk) }
-        ensures calls { D.calls self.new.store.disk ≤ D.calls self.old.store.disk + most_calls Event.Piece }
+        ensures calls { D.calls self.new.store.disk ≤ D.calls self.old.store.disk + 4 }
     {
         match self.write_piece() {
             Ok(true) => Outcome::Done,
@@ -216,7 +215,7 @@ impl<D: Disk> System<D> {
         ensures number { IsNumbered self.old result }
         ensures failures { D.failed_calls self.new.store.disk
             ≡ counted_event result (D.failed_calls self.old.store.disk) }
-        ensures calls { D.calls self.new.store.disk ≤ D.calls self.old.store.disk + most_calls Event.Finish }
+        ensures calls { D.calls self.new.store.disk ≤ D.calls self.old.store.disk + 4 }
     {
         match self.finish() {
             Ok(true) => Outcome::Done,

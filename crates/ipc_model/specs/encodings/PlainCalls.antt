@@ -176,31 +176,32 @@ pub record IsCanonicalCall (c : PlainCall) : Type 0 where
   pub whole : IsWholeCall c
   pub kept : canonical_call c ≡ c
 
--- Which of the calls that have records have no results. Nothing asks this of other calls.
-abbrev pub has_no_results : PlainCall → Bool
-has_no_results (call.Attach space) = true
-has_no_results call.Names = true
-has_no_results (call.Type name) = true
-has_no_results (call.Rename from to) = true
-has_no_results (call.AllocateName kind name) = true
-has_no_results (call.Allocate kind) = false
-has_no_results (call.Destroy name) = true
-has_no_results (call.Deallocate name) = true
-has_no_results (call.GetRefs name kind) = true
-has_no_results (call.ModRefs name kind delta) = true
-has_no_results (call.SetQlimit name limit) = true
-has_no_results (call.SetMscount name count) = true
-has_no_results (call.SetSeqno name seqno) = true
-has_no_results (call.GetReceiveStatus name) = true
-has_no_results (call.GetSetStatus name) = true
-has_no_results (call.MoveMember member after) = true
-has_no_results (call.RequestNotification name variant sync notify_name disposition) = false
-has_no_results (call.InsertRight name right_name disposition) = true
-has_no_results (call.ExtractRight name disposition) = false
-has_no_results (call.Send message) = false
-has_no_results (call.Receive limit large name waited) = false
-has_no_results (call.SpaceCreate name disposition) = false
-has_no_results call.SpaceDestroy = true
+-- A record of this call has a reply without results. Calls that have no records count as such, and nothing asks it of
+-- them.
+abbrev pub records_no_results : PlainCall → Bool
+records_no_results (call.Attach space) = true
+records_no_results call.Names = true
+records_no_results (call.Type name) = true
+records_no_results (call.Rename from to) = true
+records_no_results (call.AllocateName kind name) = true
+records_no_results (call.Allocate kind) = false
+records_no_results (call.Destroy name) = true
+records_no_results (call.Deallocate name) = true
+records_no_results (call.GetRefs name kind) = true
+records_no_results (call.ModRefs name kind delta) = true
+records_no_results (call.SetQlimit name limit) = true
+records_no_results (call.SetMscount name count) = true
+records_no_results (call.SetSeqno name seqno) = true
+records_no_results (call.GetReceiveStatus name) = true
+records_no_results (call.GetSetStatus name) = true
+records_no_results (call.MoveMember member after) = true
+records_no_results (call.RequestNotification name variant sync notify_name disposition) = false
+records_no_results (call.InsertRight name right_name disposition) = true
+records_no_results (call.ExtractRight name disposition) = false
+records_no_results (call.Send message) = false
+records_no_results (call.Receive limit large name waited) = false
+records_no_results (call.SpaceCreate name disposition) = false
+records_no_results call.SpaceDestroy = true
 
 -- What a receive with this limit reports: the size of the message that it took out and the name of the port. It brings
 -- the message, or nothing where the message was larger than the limit and was destroyed.
@@ -217,7 +218,7 @@ Brings c code size member message = ⊥
 
 -- the results that the reply to such a call has
 abbrev pub HasItsResults : PlainCall → PlainReply → Type 0
-HasItsResults c (reply.Done number) = has_no_results c ≡ true
+HasItsResults c (reply.Done number) = records_no_results c ≡ true
 HasItsResults c (reply.Message code size member message) = Brings c code size member message
 HasItsResults c answer = Unit {0}
 
