@@ -1,25 +1,13 @@
 // The cell that ties what is stored to what is known of it.
 ghost use Rattle.std.specs.Prelude.{◌≡◌};
 
+use crate::Founding;
 use crate::tokens::Storing;
 use atomic_table::{Join, Split};
 use crossbeam_utils::atomic::seq_cell::{Pass, RuledSeqCell};
 use crossbeam_utils::rule::{Outcome, Protocol};
 use std::alloc::{AllocError, Global};
-use std::marker::{Brand, Model, PhantomData};
-
-/// Which mark it is. A program picks it at a call.
-pub trait Marking {
-    ghost use Rattle.atomic_table.specs.Seated.{TableId};
-
-    ghost table: { TableId };
-}
-
-impl Marking for Brand {
-    ghost use Rattle.history.specs.Marks.{no_table};
-
-    ghost table = { no_table };
-}
+use std::marker::{Model, PhantomData};
 
 // What a pass knows: the counting one, how many are stored; any, that so many at least are. No value of it is made.
 pub struct View {
@@ -119,7 +107,7 @@ impl NewMark {
     }
 
     /// The mark under a name, and the right to count at it.
-    pub fn named<M: Marking>(self) -> (Mark<M>, Storing<M>)
+    pub fn named<M: Founding>(self) -> (Mark<M>, Storing<M>)
         requires { self ≡ M.table }
         ensures { result.1 ≡ 0 }
     {
@@ -136,7 +124,7 @@ impl NewMark {
 
 /// A mark: how many records are stored, for all threads.
 #[derive(Drop)]
-pub struct Mark<M: Marking> {
+pub struct Mark<M: Founding> {
     pub(crate) cell: Cell,
     of: PhantomData<M>,
     ghost named: { cell.table.shared.table_id ≡ M.table },

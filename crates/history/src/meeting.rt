@@ -6,11 +6,11 @@ ghost use Rattle.history.specs.Blocks.{names_after, Leads};
 use crate::held::Held;
 use crate::notes::{again_at, compare_at, copy_rest};
 use crate::place::Place;
-use crate::{AddFault, CatchUpFault, Entry, FirstBlock, Past};
+use crate::{AddFault, CatchUpFault, Entry, Founding, Past};
 use once_cell::race::Note;
 use std::alloc::AllocError;
 
-impl<L: FirstBlock> Past<L> {
+impl<L: Founding> Past<L> {
     /// Compares two prefixes, after which the shorter is known to begin the longer. Returns whether they could be
     /// compared, which two in one entry block always can.
     pub fn agree(&mut self, other: &mut Past<L>) -> bool
@@ -169,7 +169,7 @@ impl<L: FirstBlock> Past<L> {
 
 /// Returns whether notes up to an earlier entry block are seen to be of the same cells as the first ones up to a later
 /// block, and to know a prefix of what those know.
-fn begin_in_block_before<L: FirstBlock>(
+fn begin_in_block_before<L: Founding>(
     place: &mut Place<L>,
     notes: &mut Vec<Note<Held>>,
     later: &mut Place<L>,

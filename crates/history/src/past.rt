@@ -5,7 +5,7 @@ ghost use Rattle.history.specs.Entries.{numbers_of};
 use crate::held::Held;
 use crate::notes::copy_rest;
 use crate::place::Place;
-use crate::{AddFault, Entry, EntryBlock, FirstBlock};
+use crate::{AddFault, Entry, EntryBlock, Founding};
 use boxcar::tag::{Names, Tag};
 use once_cell::race::Note;
 use std::alloc::{AllocError, Global};
@@ -14,7 +14,7 @@ use std::sync::Arc;
 
 /// A prefix of the history, up to an entry block that it keeps. Contracts see its entries, how many blocks came before
 /// its block, where that block begins, and the names of its cells.
-pub struct Past<L: FirstBlock> {
+pub struct Past<L: Founding> {
     pub(crate) alloc: Global,
     pub(crate) place: Place<L>,
 
@@ -23,7 +23,7 @@ pub struct Past<L: FirstBlock> {
 }
 
 // Written out, so that proofs above know one function and not its parts.
-impl<L: FirstBlock> Drop for Past<L> {
+impl<L: Founding> Drop for Past<L> {
     fn drop(self) {
         let Past {
             alloc: _,
@@ -35,7 +35,7 @@ impl<L: FirstBlock> Drop for Past<L> {
     }
 }
 
-impl<L: FirstBlock> Model for Past<L> {
+impl<L: Founding> Model for Past<L> {
     ghost use Rattle.std.specs.Prelude.{length, map};
     ghost use Rattle.history.specs.Pasts.{PastValue, past_code, IsPast, known_entries};
 
@@ -57,13 +57,13 @@ impl<L: FirstBlock> Model for Past<L> {
 /// All entries before the next one.
 struct AllBefore;
 
-impl<L: FirstBlock> Names<Past<L>> for AllBefore {
+impl<L: Founding> Names<Past<L>> for AllBefore {
     ghost use Rattle.history.specs.Entries.{numbers_of};
 
     ghost numbers = { λ past. numbers_of past.entries };
 }
 
-impl<L: FirstBlock> Past<L> {
+impl<L: Founding> Past<L> {
     /// The prefix that has no entry, in the first entry block.
     pub fn new(alloc: Global, block: Arc<EntryBlock, Global>) -> Self
         requires { arc_value block ≡ L.first }

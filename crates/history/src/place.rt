@@ -4,34 +4,23 @@ ghost use Rattle.history.specs.Blocks.{names_after, place_after, known_links, Ar
 
 use crate::link::Link;
 use crate::notes::{again_at, compare_at, copy_rest};
-use crate::{AddFault, EntryBlock};
+use crate::{AddFault, EntryBlock, Founding};
 use boxcar::tag::{Names, Tag};
 use once_cell::race::Note;
 use std::alloc::{AllocError, Global};
-use std::marker::{Brand, Model, PhantomData};
+use std::marker::{Model, PhantomData};
 use std::sync::Arc;
-
-/// Which history it is, by the names of its first entry block's cells. A program picks it at a call.
-pub trait FirstBlock {
-    ghost use Rattle.history.specs.Blocks.{BlockNames};
-
-    ghost first: { BlockNames };
-}
-
-impl FirstBlock for Brand {
-    ghost first = { record { link = 0; cells = [] } };
-}
 
 /// An entry block of the history, and the notes of the links that lead there from the first block.
 #[derive(Drop)]
-pub(crate) struct Place<L: FirstBlock> {
+pub(crate) struct Place<L: Founding> {
     links: Vec<Note<Link>>,
     block: Arc<EntryBlock, Global>,
     start: usize,
     of: PhantomData<L>,
 }
 
-impl<L: FirstBlock> Model for Place<L> {
+impl<L: Founding> Model for Place<L> {
     ghost use Rattle.std.specs.Prelude.{map};
     ghost use Rattle.std.specs.Arc.{arc_value};
     ghost use Rattle.history.specs.Blocks.{PlaceValue, place_code, IsPlace, known_links};
@@ -53,7 +42,7 @@ impl<L: FirstBlock> Model for Place<L> {
 /// The names so far, at a place.
 struct Here;
 
-impl<L: FirstBlock> Names<Place<L>> for Here {
+impl<L: Founding> Names<Place<L>> for Here {
     ghost use Rattle.history.specs.Blocks.{names_after, numbers_of_names};
 
     ghost numbers = { λ place. numbers_of_names (names_after L.first place.links) };
@@ -68,7 +57,7 @@ impl Names<EntryBlock> for Own {
     ghost numbers = { λ block. numbers_of_names block };
 }
 
-impl<L: FirstBlock> Place<L> {
+impl<L: Founding> Place<L> {
     /// The first entry block.
     pub(crate) fn new(alloc: Global, block: Arc<EntryBlock, Global>) -> Self
         requires { arc_value block ≡ L.first }
@@ -181,7 +170,7 @@ impl<L: FirstBlock> Place<L> {
 }
 
 /// The links that two places both have are the same.
-fn agree_links<L: FirstBlock>(mine: &mut Vec<Note<Link>>, theirs: &mut Vec<Note<Link>>, both: usize)
+fn agree_links<L: Founding>(mine: &mut Vec<Note<Link>>, theirs: &mut Vec<Note<Link>>, both: usize)
     requires mine { AreLinks L.first (map (λ n. n.cell) mine.old.items) (map (λ n. n.known) mine.old.items) }
     requires theirs { AreLinks L.first (map (λ n. n.cell) theirs.old.items) (map (λ n. n.known) theirs.old.items) }
     requires both { (both ≤ length mine.old.items) × (both ≤ length theirs.old.items) }

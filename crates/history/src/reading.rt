@@ -2,7 +2,7 @@ ghost use Rattle.std.specs.Prelude.{◌≡◌, ◌+◌, ◌≤◌, Some, true, l
 
 use crate::held::Held;
 use crate::notes::again_at;
-use crate::{FirstBlock, Past};
+use crate::{Founding, Past};
 use ipc_model::Record;
 use once_cell::race::Note;
 use std::marker::Model;
@@ -24,7 +24,7 @@ impl Model for EntryNote {
     ghost view = { λ n. record { cell = n.note.cell; known = option_map (λ p. p.entry) n.note.known } };
 }
 
-impl<L: FirstBlock> Past<L> {
+impl<L: Founding> Past<L> {
     /// Returns what it knows of the entry at a place of its block, or `None` if it has none there.
     pub fn note(&mut self, at: usize) -> Option<EntryNote>
         ensures same { self.new ≡ self.old }

@@ -3,19 +3,20 @@ ghost use Rattle.std.specs.Prelude.{◌≡◌, ◌+◌, ◌<◌, ◌≤◌, ◌^
 ghost use Rattle.crossbeam_utils.specs.Seq.{cell_view};
 ghost use Rattle.history.specs.Marks.{counting};
 
-use crate::mark::{CellPass, Compares, Copies, Counts, HandsOut, Mark, Marking};
+use crate::Founding;
+use crate::mark::{CellPass, Compares, Copies, Counts, HandsOut, Mark};
 use std::marker::{Model, PhantomData};
 use std::sync::Wait;
 
 /// The right to count what is stored. Each mark has one. Contracts see how many are stored.
 #[derive(Drop)]
-pub struct Storing<M: Marking> {
+pub struct Storing<M: Founding> {
     stored: u64,
     pass: CellPass,
     of: PhantomData<M>,
 }
 
-impl<M: Marking> Model for Storing<M> {
+impl<M: Founding> Model for Storing<M> {
     ghost use Rattle.std.specs.Prelude.{◌≡◌, ℕ};
     ghost use Rattle.crossbeam_utils.specs.Seq.{cell_view};
     ghost use Rattle.history.specs.Marks.{counting};
@@ -29,13 +30,13 @@ impl<M: Marking> Model for Storing<M> {
 
 /// That so many records are stored, for good. Contracts see how many.
 #[derive(Drop)]
-pub struct Stored<M: Marking> {
+pub struct Stored<M: Founding> {
     known: u64,
     pass: CellPass,
     of: PhantomData<M>,
 }
 
-impl<M: Marking> Model for Stored<M> {
+impl<M: Founding> Model for Stored<M> {
     ghost use Rattle.std.specs.Prelude.{◌≡◌, ℕ, []};
     ghost use Rattle.crossbeam_utils.specs.Seq.{cell_view};
     ghost use Rattle.history.specs.Marks.{knowing};
@@ -48,7 +49,7 @@ impl<M: Marking> Model for Stored<M> {
         × (cell_view s.pass ≡ knowing s.known) };
 }
 
-impl<M: Marking> Storing<M> {
+impl<M: Founding> Storing<M> {
     /// The right to count at a mark at which nothing is stored.
     pub(crate) fn new(pass: CellPass) -> Self
         requires table { pass.table_id ≡ M.table }
@@ -107,7 +108,7 @@ impl<M: Marking> Storing<M> {
     }
 }
 
-impl<M: Marking> Stored<M> {
+impl<M: Founding> Stored<M> {
     /// Returns how many are known to be stored.
     pub fn count(&self) -> u64
         ensures { result ≡ self.now }

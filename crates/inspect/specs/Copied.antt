@@ -1,8 +1,8 @@
 -- A store with the state of another one, and the outcome of a run that makes it.
-use Rattle.std.specs.Prelude.{◌≡◌, ◌≢◌, ◌⊎◌, ℕ, List, [], ◌++◌, Option, Some, codes}
+use Rattle.std.specs.Prelude.{◌≡◌, ◌≢◌, ◌⊎◌, ℕ, List, [], ◌∷◌, ◌++◌, Option, Some, codes}
 use Rattle.checkpoint.specs.Images.{ImageValue, open_image, unwritten}
 use Rattle.disk.specs.Moments.{View}
-use Rattle.disk.specs.Slots.{Slots}
+use Rattle.disk.specs.Slots.{Slots, empty_slots}
 use Rattle.inspect.specs.declared.copy_program.CopyEnd.{CopyEnd}
 use Rattle.inspect.specs.declared.copy_program.CopyEnd.TheVariants.{Copied, CommandLine, Fault}
 use Rattle.inspect.specs.declared.copying.CopyStoreFault.{CopyStoreFault}
@@ -72,8 +72,32 @@ copy_line_of Copied = []
 copy_line_of CommandLine = codes "machcp: " ++ copy_words_of CommandLine
 copy_line_of (Fault fault) = codes "machcp: " ++ copy_words_of (Fault fault)
 
--- the possible outcomes with this many arguments, or with arguments that can't be read (None)
-abbrev pub EndsForWords : Option ℕ → CopyEnd → Type 0
-EndsForWords words CommandLine = words ≢ Some 2
-EndsForWords words Copied = words ≡ Some 2
-EndsForWords words (Fault fault) = words ≡ Some 2
+-- the path at which a copy is made, until it gets its own: that path without a slash at its end, and then `.part`
+abbrev pub IsPartOf : List ℕ → List ℕ → Type 0
+IsPartOf path part =
+    (stem : List ℕ) × ((stem ≡ path) ⊎ (stem ++ codes "/" ≡ path)) × (part ≡ stem ++ codes ".part")
+
+-- The store in these slots was copied to the folder at a path, where no store was.
+pub record CopiesInto {D : Type 0} (is_read honest : Type 0) (slots : Slots) (view : D → View) (path_of : D → List ℕ)
+    (path : List ℕ) : Type 0 where
+  pub before : D
+  pub after : D
+  pub is_there : path_of before ≡ path
+  pub copied : is_read → honest → (view before).seen ≡ empty_slots → IsCopyOf slots (view after)
+
+-- the store in the folder at a path was copied to the folder at another one
+pub record CopiesFolder {D : Type 0} (honest : Type 0) (view : D → View) (path_of : D → List ℕ) (store copy : List ℕ)
+    : Type 0 where
+  pub from : D
+  pub is_store : path_of from ≡ store
+  pub copied : CopiesInto honest honest (view from).seen view path_of copy
+
+-- The possible outcomes with these arguments, or with arguments that can't be read (None). They are the paths of the
+-- store and of the copy.
+module _ {D : Type 0} (honest : Type 0) (view : D → View) (path_of : D → List ℕ) where
+  abbrev pub EndsForWords : Option (List (List ℕ)) → CopyEnd → Type 0
+  EndsForWords words CommandLine = (store copy : List ℕ) → words ≢ Some (store ∷ copy ∷ [])
+  EndsForWords words Copied =
+      (store copy part : List ℕ) × (words ≡ Some (store ∷ copy ∷ [])) × IsPartOf copy part
+      × CopiesFolder honest view path_of store part
+  EndsForWords words (Fault fault) = (store copy : List ℕ) × (words ≡ Some (store ∷ copy ∷ []))

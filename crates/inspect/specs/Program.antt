@@ -1,5 +1,5 @@
 -- The outcome of a run of an inspector: its status and its error message.
-use Rattle.std.specs.Prelude.{◌≡◌, ◌≢◌, ℕ, List, [], ◌++◌, Option, Some, codes}
+use Rattle.std.specs.Prelude.{◌≡◌, ◌≢◌, ℕ, List, [], ◌∷◌, ◌++◌, Option, Some, codes}
 use Rattle.std.specs.Io.KnownBytes.{Appends, Keeps}
 use Rattle.disk.specs.Moments.{View}
 use Rattle.inspect.specs.Printed.{IsTextOf}
@@ -32,16 +32,20 @@ line_of name Shown = []
 line_of name CommandLine = name ++ words_of CommandLine
 line_of name (Fault fault) = name ++ words_of (Fault fault)
 
--- the text of a state, which a disk's slots encode if the disk is honest
-abbrev pub IsOfDisk : {D : Type 0} → (ℕ → ℕ → State → List ℕ) → Type 0 → (D → View) → List ℕ → Type 0
-IsOfDisk {D} text_of honest view text = (disk : D) × IsTextOf text_of honest (view disk).seen text
+-- the text of a state, which the slots in the folder at a path encode if its disk is honest
+abbrev pub IsOfDisk : {D : Type 0} → (ℕ → ℕ → State → List ℕ) → Type 0 → (D → View) → (D → List ℕ) → List ℕ → List ℕ
+    → Type 0
+IsOfDisk {D} text_of honest view path_of path text =
+    (disk : D) × (path_of disk ≡ path) × IsTextOf text_of honest (view disk).seen text
 
--- The output of a run with this outcome, for this many arguments or for arguments that can't be read: the whole text, a
--- prefix of it if the output couldn't be written, or nothing.
-abbrev pub Prints : (List ℕ → Type 0) → Option ℕ → Option (List ℕ) → Option (List ℕ) → ShowEnd → Type 0
-Prints IsEncoding words old new CommandLine = (words ≢ Some 1) × Keeps old new
-Prints IsEncoding words old new Shown = (words ≡ Some 1) × ((text : List ℕ) × IsEncoding text × Appends old new text)
-Prints IsEncoding words old new (Fault Write) =
-    (words ≡ Some 1) × ((text : List ℕ) × IsEncoding text × AppendsPart old new text)
-Prints IsEncoding words old new (Fault Busy) = (words ≡ Some 1) × Keeps old new
-Prints IsEncoding words old new (Fault (Store fault)) = (words ≡ Some 1) × Keeps old new
+-- The output of a run with this outcome, for these arguments or for arguments that can't be read: the whole text of the
+-- folder that the one argument names, a prefix of it if the output couldn't be written, or nothing.
+abbrev pub Prints : (List ℕ → List ℕ → Type 0) → Option (List (List ℕ)) → Option (List ℕ) → Option (List ℕ) → ShowEnd
+    → Type 0
+Prints IsOf words old new CommandLine = ((path : List ℕ) → words ≢ Some (path ∷ [])) × Keeps old new
+Prints IsOf words old new Shown =
+    (path : List ℕ) × (words ≡ Some (path ∷ [])) × ((text : List ℕ) × IsOf path text × Appends old new text)
+Prints IsOf words old new (Fault Write) =
+    (path : List ℕ) × (words ≡ Some (path ∷ [])) × ((text : List ℕ) × IsOf path text × AppendsPart old new text)
+Prints IsOf words old new (Fault Busy) = ((path : List ℕ) × (words ≡ Some (path ∷ []))) × Keeps old new
+Prints IsOf words old new (Fault (Store fault)) = ((path : List ℕ) × (words ≡ Some (path ∷ []))) × Keeps old new

@@ -1,12 +1,13 @@
 // The program `machcp`, which copies a store.
-ghost use Rattle.std.specs.Prelude.{◌≡◌, ◌++◌, codes, length, option_map, IfErr, OnErr, OnOk};
+ghost use Rattle.std.specs.Prelude.{◌≡◌, ◌⊎◌, ℕ, List, ◌++◌, codes, map, option_map, IfErr, OnErr, OnOk};
 ghost use Rattle.std.specs.Io.KnownBytes.{Appends};
-ghost use Rattle.inspect.specs.Copied.{EndsForWords, copy_line_of, copy_status_of, copy_words_of};
+ghost use Rattle.std.specs.String.{string_bytes};
+ghost use Rattle.inspect.specs.Copied.{CopiesFolder, CopiesInto, EndsForWords, IsPartOf, copy_line_of, copy_status_of, copy_words_of};
 ghost use Rattle.wire.specs.Writing.{AppendsPart};
 
 use crate::copying::{CopyStoreFault, copy};
 use crate::program::write_line;
-use disk::{Disk, FileDisk};
+use disk::{Disk, FileDisk, HostFolder};
 use std::alloc::Global;
 use std::fs::{self, File, OpenFile};
 use std::io::{self, ErrorKind, Write};
@@ -74,15 +75,16 @@ impl CopyEnd {
 /// The first argument is the store's folder, whose files are opened only for reading. The second one is the folder of
 /// the copy, which must not exist. 0: the copy was made, and is durable. 1: a fault, with an error message. 2: there
 /// aren't exactly two arguments or they can't be read, with an error message.
-pub fn copy_store<F: Files, E: Write>(
+pub fn copy_store<'a, F: Files, E: Write>(
     alloc: Global,
-    files: &F,
+    files: &'a F,
     words: Option<&[String]>,
     errors: &mut E,
 ) -> u8
     ensures ended { (end : CopyEnd) × (result ≡ copy_status_of end)
         × AppendsPart (E.contents errors.old) (E.contents errors.new) (copy_line_of end)
-        × EndsForWords (option_map (λ texts. length texts.now) words.entry) end }
+        × EndsForWords ⟦<FileDisk<HostFolder<&'a F>> as Disk>⟧.honest ⟦<FileDisk<HostFolder<&'a F>> as Disk>⟧.view
+        (λ disk. string_bytes disk.folder.path) (option_map (λ texts. map string_bytes texts.now) words.entry) end }
 {
     let end = run_copy(alloc, files, words);
     let _ = end.tell(errors);
@@ -90,8 +92,9 @@ pub fn copy_store<F: Files, E: Write>(
 }
 
 /// Does everything that `copy_store` does, except for the error message.
-pub fn run_copy<F: Files>(alloc: Global, files: &F, words: Option<&[String]>) -> CopyEnd
-    ensures { EndsForWords (option_map (λ texts. length texts.now) words.entry) result }
+pub fn run_copy<'a, F: Files>(alloc: Global, files: &'a F, words: Option<&[String]>) -> CopyEnd
+    ensures { EndsForWords ⟦<FileDisk<HostFolder<&'a F>> as Disk>⟧.honest ⟦<FileDisk<HostFolder<&'a F>> as Disk>⟧.view
+        (λ disk. string_bytes disk.folder.path) (option_map (λ texts. map string_bytes texts.now) words.entry) result }
 {
     let Some([store, copy]) = words else {
         return CopyEnd::CommandLine;
@@ -104,34 +107,62 @@ pub fn run_copy<F: Files>(alloc: Global, files: &F, words: Option<&[String]>) ->
 
 /// Copies the store in a folder into a new folder. The copy is made under another name, and renamed once all of it is
 /// durable.
-fn copy_folder<F: Files>(
+fn copy_folder<'a, F: Files>(
     alloc: Global,
-    files: &F,
+    files: &'a F,
     store: &str,
     path: &str,
-) -> Result<(), CopyStoreFault> {
-    let Ok(mut from) = FileDisk::at(alloc, files, store) else {
-        return Err(CopyStoreFault::Store(StoreFault::Device));
-    };
-    let path = path.strip_suffix("/").unwrap_or(path);
+) -> Result<(), CopyStoreFault>
+    ensures { OnOk result ((part : List ℕ) × IsPartOf path.now part
+        × CopiesFolder ⟦<FileDisk<HostFolder<&'a F>> as Disk>⟧.honest ⟦<FileDisk<HostFolder<&'a F>> as Disk>⟧.view
+        (λ disk. string_bytes disk.folder.path) store.now part) }
+{
+    let path = without_slash(path);
     let Ok(part) = format!(in alloc; "{path}.part") else {
         return Err(CopyStoreFault::Store(StoreFault::NoMemory));
     };
-    if !is_free(files, path) || !is_free(files, part.as_str()) {
-        return Err(CopyStoreFault::Exists);
-    }
-    if fs::create_dir(files, part.as_str()).is_err() {
-        return Err(CopyStoreFault::Write);
-    }
-    if let Err(fault) = copy_into(alloc, files, &mut from, part.as_str()) {
+    copy_as(alloc, files, store, path, part.as_str())
+}
+
+/// Returns a path without the slash at its end, if there is one.
+fn without_slash(path: &str) -> &str
+    ensures { (result.now ≡ path.now) ⊎ (result.now ++ codes "/" ≡ path.now) }
+{
+    path.strip_suffix("/").unwrap_or(path)
+}
+
+/// Copies the store in a folder into a new folder, at the path `part`, and renames that to `path`.
+fn copy_as<'a, F: Files>(
+    alloc: Global,
+    files: &'a F,
+    store: &str,
+    path: &str,
+    part: &str,
+) -> Result<(), CopyStoreFault>
+    ensures { OnOk result (CopiesFolder ⟦<FileDisk<HostFolder<&'a F>> as Disk>⟧.honest
+        ⟦<FileDisk<HostFolder<&'a F>> as Disk>⟧.view (λ disk. string_bytes disk.folder.path) store.now part.now) }
+{
+    let Ok(mut from) = FileDisk::at(alloc, files, store) else {
+        return Err(CopyStoreFault::Store(StoreFault::Device));
+    };
+    make_folder(files, path, part)?;
+    if let Err(fault) = copy_into(alloc, files, &mut from, part) {
         // The folder is empty if the store couldn't be read.
-        let _ = fs::remove_dir(files, part.as_str());
+        let _ = fs::remove_dir(files, part);
         return Err(fault);
     }
-    match name_copy(files, part.as_str(), path) {
+    match name_copy(files, part, path) {
         Ok(()) => Ok(()),
         Err(_) => Err(CopyStoreFault::Write),
     }
+}
+
+/// Creates the folder `part`, unless it exists or `path` does.
+fn make_folder<F: Files>(files: &F, path: &str, part: &str) -> Result<(), CopyStoreFault> {
+    if !is_free(files, path) || !is_free(files, part) {
+        return Err(CopyStoreFault::Exists);
+    }
+    fs::create_dir(files, part).or(Err(CopyStoreFault::Write))
 }
 
 /// Returns true if no file has this name.
@@ -143,12 +174,15 @@ fn is_free<F: Files>(files: &F, path: &str) -> bool {
 }
 
 /// Copies a store into an empty folder.
-fn copy_into<D: Disk, F: Files>(
+fn copy_into<'a, D: Disk, F: Files>(
     alloc: Global,
-    files: &F,
+    files: &'a F,
     from: &mut D,
     folder: &str,
-) -> Result<(), CopyStoreFault> {
+) -> Result<(), CopyStoreFault>
+    ensures { OnOk result (CopiesInto D.honest ⟦<FileDisk<HostFolder<&'a F>> as Disk>⟧.honest (D.view from.old).seen
+        ⟦<FileDisk<HostFolder<&'a F>> as Disk>⟧.view (λ disk. string_bytes disk.folder.path) folder.now) }
+{
     let Ok(mut to) = FileDisk::at(alloc, files, folder) else {
         return Err(CopyStoreFault::Write);
     };

@@ -1,5 +1,6 @@
-ghost use Rattle.std.specs.Prelude.{◌≡◌, ◌++◌, codes, length, option_map, IfErr, OnErr, OnOk};
+ghost use Rattle.std.specs.Prelude.{◌≡◌, ◌++◌, map, codes, option_map, IfErr, OnErr, OnOk};
 ghost use Rattle.std.specs.Io.KnownBytes.{Appends};
+ghost use Rattle.std.specs.String.{string_bytes};
 ghost use Rattle.inspect.specs.Printed.{PrintsText, drawing_of, listing_of};
 ghost use Rattle.inspect.specs.Program.{IsOfDisk, Prints, line_of, status_of, words_of};
 ghost use Rattle.wire.specs.Writing.{AppendsPart};
@@ -91,7 +92,8 @@ pub fn show<'a, F: Files, W: Write, E: Write>(
     ensures ended { (end : ShowEnd) × (result ≡ status_of end)
         × AppendsPart (E.contents errors.old) (E.contents errors.new) (line_of (codes "machls: ") end)
         × Prints (IsOfDisk listing_of ⟦<FileDisk<HostFolder<&'a F>> as Disk>⟧.honest
-        ⟦<FileDisk<HostFolder<&'a F>> as Disk>⟧.view) (option_map (λ texts. length texts.now) words.entry)
+        ⟦<FileDisk<HostFolder<&'a F>> as Disk>⟧.view (λ disk. string_bytes disk.folder.path))
+        (option_map (λ texts. map string_bytes texts.now) words.entry)
         (W.contents output.old) (W.contents output.new) end }
 {
     let end = run_show(alloc, files, words, output);
@@ -107,7 +109,8 @@ pub fn run_show<'a, F: Files, W: Write>(
     output: &mut W,
 ) -> ShowEnd
     ensures ended { Prints (IsOfDisk listing_of ⟦<FileDisk<HostFolder<&'a F>> as Disk>⟧.honest
-        ⟦<FileDisk<HostFolder<&'a F>> as Disk>⟧.view) (option_map (λ texts. length texts.now) words.entry)
+        ⟦<FileDisk<HostFolder<&'a F>> as Disk>⟧.view (λ disk. string_bytes disk.folder.path))
+        (option_map (λ texts. map string_bytes texts.now) words.entry)
         (W.contents output.old) (W.contents output.new) result }
 {
     run(alloc, files, words, &Lines, output)
@@ -124,7 +127,8 @@ pub fn show_drawing<'a, F: Files, W: Write, E: Write>(
     ensures ended { (end : ShowEnd) × (result ≡ status_of end)
         × AppendsPart (E.contents errors.old) (E.contents errors.new) (line_of (codes "machmap: ") end)
         × Prints (IsOfDisk drawing_of ⟦<FileDisk<HostFolder<&'a F>> as Disk>⟧.honest
-        ⟦<FileDisk<HostFolder<&'a F>> as Disk>⟧.view) (option_map (λ texts. length texts.now) words.entry)
+        ⟦<FileDisk<HostFolder<&'a F>> as Disk>⟧.view (λ disk. string_bytes disk.folder.path))
+        (option_map (λ texts. map string_bytes texts.now) words.entry)
         (W.contents output.old) (W.contents output.new) end }
 {
     let end = run_drawing(alloc, files, words, output);
@@ -140,7 +144,8 @@ pub fn run_drawing<'a, F: Files, W: Write>(
     output: &mut W,
 ) -> ShowEnd
     ensures ended { Prints (IsOfDisk drawing_of ⟦<FileDisk<HostFolder<&'a F>> as Disk>⟧.honest
-        ⟦<FileDisk<HostFolder<&'a F>> as Disk>⟧.view) (option_map (λ texts. length texts.now) words.entry)
+        ⟦<FileDisk<HostFolder<&'a F>> as Disk>⟧.view (λ disk. string_bytes disk.folder.path))
+        (option_map (λ texts. map string_bytes texts.now) words.entry)
         (W.contents output.old) (W.contents output.new) result }
 {
     run(alloc, files, words, &Drawing, output)
@@ -155,7 +160,8 @@ fn run<'a, F: Files, P: Form, W: Write>(
     output: &mut W,
 ) -> ShowEnd
     ensures ended { Prints (IsOfDisk P.text_of ⟦<FileDisk<HostFolder<&'a F>> as Disk>⟧.honest
-        ⟦<FileDisk<HostFolder<&'a F>> as Disk>⟧.view) (option_map (λ texts. length texts.now) words.entry)
+        ⟦<FileDisk<HostFolder<&'a F>> as Disk>⟧.view (λ disk. string_bytes disk.folder.path))
+        (option_map (λ texts. map string_bytes texts.now) words.entry)
         (W.contents output.old) (W.contents output.new) result }
 {
     let Some([store]) = words else {
@@ -176,7 +182,8 @@ fn print_folder<'a, F: Files, P: Form, W: Write>(
     output: &mut W,
 ) -> Result<(), ListFault>
     ensures prints { PrintsText (IsOfDisk P.text_of ⟦<FileDisk<HostFolder<&'a F>> as Disk>⟧.honest
-        ⟦<FileDisk<HostFolder<&'a F>> as Disk>⟧.view) (W.contents output.old) (W.contents output.new) result }
+        ⟦<FileDisk<HostFolder<&'a F>> as Disk>⟧.view (λ disk. string_bytes disk.folder.path) folder.now)
+        (W.contents output.old) (W.contents output.new) result }
 {
     let Ok(mut disk) = FileDisk::at(alloc, files, folder) else {
         return Err(ListFault::Store(StoreFault::Device));

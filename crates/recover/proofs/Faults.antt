@@ -8,6 +8,7 @@ use Rattle.ipc_model.specs.store.Recovery.{Recovered}
 use Rattle.journal.specs.declared.segment.Segment.{Segment}
 use Rattle.recover.specs.Kept.{IsKept}
 use Rattle.recover.specs.Outcomes.{CountsDevice, OnlyOpeningFaults, OnlyReadingFaults, Opens}
+use Rattle.recover.specs.Surveyed.{OpensInEpoch}
 use Rattle.disk.proofs.Moments.{unchanged_then}
 use Rattle.store_fault.specs.declared.fault.StoreFault.{StoreFault}
 use Rattle.store_fault.specs.declared.fault.StoreFault.TheVariants as fault
@@ -123,32 +124,34 @@ counts_read before mid now (Err e) f (Err h) same from is still device = record 
 -- The outcome of opening a store.
 
 pub opens_as : (old new : View) (state : State) (segment : Segment) → Recovered (as_written old.seen) state
-    → IsKept new segment state → Opens old new (Ok (state, segment))
-opens_as old new state segment recovered kept =
-    record { state = recovered; kept = kept; unchanged = tt; untouched = tt }
+    → OpensInEpoch old.seen segment.epoch → IsKept new segment state → Opens old new (Ok (state, segment))
+opens_as old new state segment recovered epoch kept =
+    record { state = recovered; epoch = epoch; kept = kept; unchanged = tt; untouched = tt }
 
 pub opens_device : (old new : View) (r : Result (State × Segment) StoreFault) → r ≡ Err fault.Device → Opens old new r
 opens_device old new (Ok v) is = absurd (cc is)
-opens_device old new (Err f) is = record { state = tt; kept = tt; unchanged = inl is; untouched = inl is }
+opens_device old new (Err f) is = record { state = tt; epoch = tt; kept = tt; unchanged = inl is; untouched = inl is }
 
 -- a fault after reads only
 pub opens_nothing : (old new : View) (r : Result (State × Segment) StoreFault) (f : StoreFault) → r ≡ Err f
     → ReadsOnly old new → Opens old new r
 opens_nothing old new (Ok v) f is reads = absurd (cc is)
 opens_nothing old new (Err e) f is reads =
-    record { state = tt; kept = tt; unchanged = inr reads.seen; untouched = inr reads.time }
+    record { state = tt; epoch = tt; kept = tt; unchanged = inr reads.seen; untouched = inr reads.time }
 
 -- after steps that only read
 pub opens_then : (old mid new : View) (r : Result (State × Segment) StoreFault) → ReadsOnly old mid → Opens mid new r
     → Opens old new r
 opens_then old mid new (Ok v) reads opens = record {
   state = subst (λ (s : Slots). Recovered (as_written s) v.0) reads.seen opens.state;
+  epoch = subst (λ (s : Slots). OpensInEpoch s v.1.epoch) reads.seen opens.epoch;
   kept = opens.kept;
   unchanged = tt;
   untouched = tt;
 }
 opens_then old mid new (Err f) reads opens = record {
   state = tt;
+  epoch = tt;
   kept = tt;
   unchanged = elim opens.unchanged [ inl device ↦ inl device | inr same ↦ inr (same ∙ reads.seen) ];
   untouched = elim opens.untouched [

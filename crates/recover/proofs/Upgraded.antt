@@ -29,12 +29,26 @@ use Rattle.recover.specs.Crashing.{StandForSame}
 use Rattle.recover.specs.Kept.{IsKept}
 use Rattle.recover.specs.Making.{DiffersIn, empty_segment}
 use Rattle.recover.specs.Replayed.{ReplaysAll}
-use Rattle.recover.specs.Upgrading.{IsRead, IsToEnd, IsUpgradeOf}
+use Rattle.recover.specs.Surveyed.{Continues, epoch_after}
+use Rattle.recover.specs.Upgrading.{IsRead, IsToEnd, IsUpgradeOf, upgraded_epoch}
 use Rattle.recover.proofs.Gates.{empty_has_gate}
 use Rattle.recover.proofs.Joined.{EndsAt, WritesImage, end_kept, end_same}
 use Rattle.recover.proofs.Rest.{rest_after, rest_called, rest_is_synced}
 use Rattle.recover.proofs.Stages.{empty_encodes, next_image, one_stands, same_by_one, two_stands}
 use Rattle.recover.proofs.Ways.{one_found, own_last_gate, same_after}
+
+-- The epoch in which a store continues.
+
+upgrade_epoch : (version : StoreVersion) (epoch : ℕ) (state : State) (upgrade : Option ImageValue)
+    → IsUpgradeOf version epoch state upgrade → upgraded_epoch epoch upgrade ≡ epoch_after version epoch
+upgrade_epoch One epoch state upgrade is = ap (λ (o : Option ImageValue). upgraded_epoch epoch o) is.1
+upgrade_epoch Two epoch state upgrade is = ap (λ (o : Option ImageValue). upgraded_epoch epoch o) is
+
+pub continues : (slots : Slots) (epoch next : ℕ) (version : StoreVersion) (state : State) (upgrade : Option ImageValue)
+    → version_of (slot_of slots (segment_slot epoch)) ≡ version_number version
+    → IsUpgradeOf version epoch state upgrade → next ≡ upgraded_epoch epoch upgrade → Continues slots epoch next
+continues slots epoch next version state upgrade says upgraded is =
+    record { version = version; says = says; is = is ∙ upgrade_epoch version epoch state upgrade upgraded }
 
 -- A store that was read is to be ended, and upgraded if there is an image for it.
 pub to_end : (disk : View) (e : ℕ) (read state : State) (count end : ℕ) (v : StoreVersion)

@@ -11,6 +11,7 @@ use Rattle.store_layout.specs.Standing.{as_written}
 use Rattle.store_layout.specs.Gates.{HaveLastGates}
 use Rattle.recover.specs.Crashing.{StandForSame}
 use Rattle.recover.specs.Kept.{IsKept}
+use Rattle.recover.specs.Surveyed.{OpensInEpoch}
 
 -- The device's count of failed calls grows by one at the fault `Device`, and is unchanged otherwise.
 pub record CountsDevice {T : Type 0} (before now : ℕ) (result : Result T StoreFault) : Type 0 where
@@ -18,10 +19,11 @@ pub record CountsDevice {T : Type 0} (before now : ℕ) (result : Result T Store
   pub still : OnErr result ((result ≡ Err Device) ⊎ (now ≡ before))
   pub device : IsErrOf result Device → now ≡ one_more before
 
--- The outcome of opening a store. At `Ok` it is the state recovered from the slots, and the disk is that of an open
--- store with this state. A fault that isn't the device's leaves the slots and the contents after a crash unchanged.
+-- The outcome of opening a store. At `Ok` it is the state recovered from the slots and the segment of the epoch in which
+-- the store continues, and the disk is that of an open store with this state. A fault that isn't the device's leaves the slots and the contents after a crash unchanged.
 pub record Opens (old new : View) (result : Result (State × Segment) StoreFault) : Type 0 where
   pub state : IfOk result (λ r. Recovered (as_written old.seen) r.0)
+  pub epoch : IfOk result (λ r. OpensInEpoch old.seen r.1.epoch)
   pub kept : IfOk result (λ r. IsKept new r.1 r.0)
   pub unchanged : OnErr result ((result ≡ Err Device) ⊎ (new.seen ≡ old.seen))
   pub untouched : OnErr result ((result ≡ Err Device) ⊎ Passes old new (MayLeave old))

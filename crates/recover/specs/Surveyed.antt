@@ -1,7 +1,10 @@
 -- The kind of a store, by the headers of its slots.
-use Rattle.std.specs.Prelude.{◌≡◌, ℕ, ◌+◌, ◌%◌, ◌^◌, ◌<◌, ◌≤◌, Bool, true, false, Option, None, Some}
+use Rattle.std.specs.Prelude.{◌≡◌, ◌⊎◌, ℕ, ◌+◌, ◌%◌, ◌^◌, ◌<◌, ◌≤◌, Bool, true, false, Option, None, Some}
+use Rattle.codes.specs.StoreVersion.{version_number}
+use Rattle.codes.specs.declared.store_version.StoreVersion.{StoreVersion}
+use Rattle.codes.specs.declared.store_version.StoreVersion.TheVariants.{One, Two}
 use Rattle.disk.specs.Slots.{Slots, slot_of}
-use Rattle.ipc_model.specs.store.Recovery.{HeadersFit, IsNotOpen, IsOfEpoch, IsOpen, image_header, segment_header_length}
+use Rattle.ipc_model.specs.store.Recovery.{HeadersFit, IsNotOpen, IsOfEpoch, IsOpen, image_header, segment_header_length, version_of}
 use Rattle.slot_steps.specs.Steps.{image_slot, segment_slot}
 use Rattle.store_layout.specs.Standing.{as_written, IsPassedImage, IsPassedSegment}
 use Rattle.recover.specs.declared.survey.Latest.{Latest}
@@ -62,3 +65,22 @@ abbrev pub FitsNext : Survey → Type 0
 FitsNext New = Unit {0}
 FitsNext (InUse epoch true) = epoch + 1 < 2 ^ 64
 FitsNext (InUse epoch false) = Unit {0}
+
+-- the epoch after a segment of this version and epoch: a store of version 1 continues in the next one
+abbrev pub epoch_after : StoreVersion → ℕ → ℕ
+epoch_after One epoch = epoch + 1
+epoch_after Two epoch = epoch
+
+-- A store whose last segment is that of an epoch continues in `next`.
+pub record Continues (slots : Slots) (epoch next : ℕ) : Type 0 where
+  pub version : StoreVersion
+  pub says : version_of (slot_of slots (segment_slot epoch)) ≡ version_number version
+  pub is : next ≡ epoch_after version epoch
+
+-- The epoch in which a store with these slots is opened: 0 if it is new, else that of its last segment, or the next one
+-- if that segment is of version 1.
+abbrev pub OpensInEpoch : Slots → ℕ → Type 0
+OpensInEpoch slots next =
+    (IsUnused slots × (next ≡ 0))
+    ⊎ (((epoch : ℕ) × IsInUse slots epoch false × Continues slots epoch next)
+    ⊎ ((epoch : ℕ) × IsInUse slots epoch true × Continues slots (epoch + 1) next))

@@ -23,6 +23,11 @@ IsUpgradeOf One epoch state image =
     × HoldsImage (epoch + 1) (open_image (epoch + 1) (image_encoding state)) state
 IsUpgradeOf Two epoch state image = image ≡ None
 
+-- the epoch in which a store continues after such an upgrade
+abbrev pub upgraded_epoch : ℕ → Option ImageValue → ℕ
+upgraded_epoch epoch None = epoch
+upgraded_epoch epoch (Some image) = epoch + 1
+
 -- A store that was read in order to continue in an epoch. The `count` records of its segment lead from the image to the
 -- state, and the last batch ends at offset `end`. The other slots are ignored.
 pub record IsRead (slots : Slots) (epoch : ℕ) (state : State) (count end : ℕ) : Type 0 where

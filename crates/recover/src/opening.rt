@@ -11,8 +11,8 @@ ghost use Rattle.recover.specs.Kept.{IsKept};
 ghost use Rattle.recover.specs.Crashing.{LeavesSame};
 ghost use Rattle.store_layout.specs.Gates.{HaveLastGates, StandForState};
 ghost use Rattle.recover.specs.Outcomes.{CountsDevice, OnlyOpeningFaults, OnlyReadingFaults, Opens, StandForNone, StandsForSameSince};
-ghost use Rattle.recover.specs.Surveyed.{IsInUse, IsUnused};
-ghost use Rattle.recover.specs.Upgrading.{IsToEnd, IsUpgradeOf};
+ghost use Rattle.recover.specs.Surveyed.{IsInUse, IsUnused, OpensInEpoch};
+ghost use Rattle.recover.specs.Upgrading.{IsToEnd, IsUpgradeOf, upgraded_epoch};
 ghost use Rattle.ipc_model.specs.store.Store.{LeavesAnEpoch};
 ghost use Rattle.store_layout.specs.Standing.{as_written};
 
@@ -80,6 +80,7 @@ fn write_first<D: Disk, T: Drop>(
     requires unused { D.honest → IsUnused (D.view disk.old).seen }
     requires new { D.honest → IsNew (as_written (D.view disk.old).seen) }
     ensures value { IfOk result (λ r. r.0 ≡ value) }
+    ensures epoch { IfOk result (λ r. r.1.epoch ≡ 0) }
     ensures kept { D.honest → IfOk result (λ r. IsKept (D.view disk.new) r.1 opening_state) }
     ensures any_moment { D.honest → StandsForSameSince (D.view disk.old) (D.view disk.new) }
     ensures failures { CountsFailure (D.failed_calls disk.old) (D.failed_calls disk.new) result }
@@ -144,6 +145,7 @@ fn end_store<D: Disk>(
     requires fits { IfSome upgrade (λ image. segment.epoch + 1 < 2 ^ 64) }
     requires read { D.honest → IsToEnd (D.view disk.old) kernel segment end upgrade }
     ensures same { IfOk result (λ r. r.0 ≡ kernel) }
+    ensures epoch { IfOk result (λ r. r.1.epoch ≡ upgraded_epoch segment.epoch upgrade) }
     ensures kept { D.honest → IfOk result (λ r. IsKept (D.view disk.new) r.1 kernel) }
     ensures any_moment { D.honest → StandsForSameSince (D.view disk.old) (D.view disk.new) }
     ensures failures { CountsFailure (D.failed_calls disk.old) (D.failed_calls disk.new) result }
@@ -268,6 +270,7 @@ fn load<D: Disk>(alloc: Global, disk: &mut D) -> Result<(Kernel, Segment), Store
 /// unknown version. `NoMemory`: out of memory.
 pub fn open<D: Disk>(alloc: Global, disk: D) -> Result<Opened<D>, (StoreFault, D)>
     ensures state { D.honest → IfOk result (λ opened. Recovered (as_written (D.view disk).seen) opened.kernel) }
+    ensures epoch { D.honest → IfOk result (λ opened. OpensInEpoch (D.view disk).seen opened.segment.epoch) }
     ensures version { D.honest → IfErr result
         (λ fault. fault.0 ≡ StoreFault.Version → IsOtherVersion (as_written (D.view disk).seen)) }
     ensures damaged { D.honest → IfErr result

@@ -118,18 +118,20 @@ module _ {D : Type 0} (honest : Type 0) (view : D → View) (o p left written : 
       }))
 
   -- a run on the disk of a folder's files
-  pub runs_in_folder : (disk last : D)
+  pub runs_in_folder : (path_of : D → List ℕ) (path : List ℕ) (disk last : D) → path_of disk ≡ path
       → IfSome o (λ input. IfSome p (λ before. IsRun honest view input before left written disk last result))
-      → IfSome o (λ input. IfSome p (λ before. RunsInFolder honest view input before left written result))
-  runs_in_folder disk last run =
+      → IfSome o
+      (λ input. IfSome p (λ before. RunsInFolder honest view input before left written path_of path result))
+  runs_in_folder path_of path disk last at run =
       both_known o p (λ input before. IsRun honest view input before left written disk last result)
-      (λ input before. RunsInFolder honest view input before left written result)
-      (λ input before run. inr (disk, last, run)) run
+      (λ input before. RunsInFolder honest view input before left written path_of path result)
+      (λ input before run. inr (disk, last, at, run)) run
 
-  pub has_no_folder : result ≡ Err (Store Device) → left ≡ o → written ≡ p
-      → IfSome o (λ input. IfSome p (λ before. RunsInFolder honest view input before left written result))
-  has_no_folder is unread unwritten =
-      both_here o p (λ input before. RunsInFolder honest view input before left written result)
+  pub has_no_folder : (path_of : D → List ℕ) (path : List ℕ) → result ≡ Err (Store Device) → left ≡ o → written ≡ p
+      → IfSome o
+      (λ input. IfSome p (λ before. RunsInFolder honest view input before left written path_of path result))
+  has_no_folder path_of path is unread unwritten =
+      both_here o p (λ input before. RunsInFolder honest view input before left written path_of path result)
       (λ input before read wrote. inl (record {
         fault = is;
         unread = unread ∙ read;

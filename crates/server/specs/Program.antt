@@ -1,5 +1,5 @@
 -- How a run of the program for one connection ends: its status, its line of errors, and what was read and written.
-use Rattle.std.specs.Prelude.{◌≡◌, ◌≢◌, ◌⊎◌, ℕ, false, List, [], ◌++◌, Option, Some, Result, Ok, Err, codes}
+use Rattle.std.specs.Prelude.{◌≡◌, ◌≢◌, ◌⊎◌, ℕ, false, List, [], ◌∷◌, ◌++◌, Option, Some, Result, Ok, Err, codes}
 use Rattle.disk.specs.Moments.{ReadsOnly, View}
 use Rattle.disk.specs.Slots.{Slots}
 use Rattle.store_fault.specs.Fault as store
@@ -108,14 +108,22 @@ module _ {D : Type 0} (honest : Type 0) (view : D → View) (input before : List
   abbrev pub IsRun : D → D → Result (Unit {0}) ServeFault → Type 0
   IsRun disk last result = Unopened disk last result ⊎ ServesDisk disk last result
 
-  -- what a run in a folder comes to: there is no such folder, or it is a run on the disk of its files
-  abbrev pub RunsInFolder : Result (Unit {0}) ServeFault → Type 0
-  RunsInFolder result = HasNoFolder input before left written result ⊎ ((disk last : D) × IsRun disk last result)
+  -- A run in the folder at a path: there is no such folder, or it is a run on the disk of its files.
+  abbrev pub RunsInFolder : (D → List ℕ) → List ℕ → Result (Unit {0}) ServeFault → Type 0
+  RunsInFolder path_of path result =
+      HasNoFolder input before left written result
+      ⊎ ((disk last : D) × (path_of disk ≡ path) × IsRun disk last result)
 
-  -- how the program ends for this many arguments, or for arguments that can't be read
-  abbrev pub EndsAlone : Option ℕ → LoneEnd → Type 0
-  EndsAlone words CommandLine = (words ≢ Some 1) × (left ≡ Some input) × (written ≡ Some before)
-  EndsAlone words InUse = (words ≡ Some 1) × (left ≡ Some input) × (written ≡ Some before)
-  EndsAlone words Unlockable = (words ≡ Some 1) × (left ≡ Some input) × (written ≡ Some before)
-  EndsAlone words Served = (words ≡ Some 1) × RunsInFolder (Ok tt)
-  EndsAlone words (Fault fault) = (words ≡ Some 1) × RunsInFolder (Err fault)
+  -- How the program ends for these arguments, or for arguments that can't be read. The argument is the path of the
+  -- store's folder.
+  abbrev pub EndsAlone : (D → List ℕ) → Option (List (List ℕ)) → LoneEnd → Type 0
+  EndsAlone path_of words CommandLine =
+      ((path : List ℕ) → words ≢ Some (path ∷ [])) × (left ≡ Some input) × (written ≡ Some before)
+  EndsAlone path_of words InUse =
+      ((path : List ℕ) × (words ≡ Some (path ∷ []))) × (left ≡ Some input) × (written ≡ Some before)
+  EndsAlone path_of words Unlockable =
+      ((path : List ℕ) × (words ≡ Some (path ∷ []))) × (left ≡ Some input) × (written ≡ Some before)
+  EndsAlone path_of words Served =
+      (path : List ℕ) × (words ≡ Some (path ∷ [])) × RunsInFolder path_of path (Ok tt)
+  EndsAlone path_of words (Fault fault) =
+      (path : List ℕ) × (words ≡ Some (path ∷ [])) × RunsInFolder path_of path (Err fault)

@@ -1,5 +1,6 @@
 //! One server at a time: the lock on a store's folder.
-ghost use Rattle.std.specs.Prelude.{◌≡◌, ◌⊎◌, IfErr};
+ghost use Rattle.std.specs.Prelude.{◌≡◌, ◌⊎◌, IfErr, IfOk};
+ghost use Rattle.std.specs.String.{string_bytes};
 ghost use Rattle.server.specs.Program.{unlocked_end};
 ghost use Rattle.server.specs.Ending as socket;
 
@@ -7,6 +8,7 @@ use crate::{LoneEnd, ServeFault, SocketEnd};
 use disk::{FileDisk, HostFolder};
 use std::alloc::Global;
 use std::fs::{File, TryLockError};
+use std::marker::Model;
 use std::rt::Files;
 use store_fault::StoreFault;
 
@@ -57,19 +59,40 @@ impl LockFault {
     }
 }
 
-/// Locks a store's folder, so that it has one server at a time. The lock is held until the file is dropped, and no file
-/// is created for it.
+/// The lock of the folder at a path. It is held until it is dropped.
+#[derive(Drop)]
+pub struct FolderLock<'a, K> {
+    path: &'a str,
+    file: K,
+}
+
+impl<'a, K> Model for FolderLock<'a, K> {
+    ghost use Rattle.std.specs.Prelude.{ℕ, List};
+    ghost use Rattle.std.specs.Coded.{coded_list, coded_ℕ};
+
+    ghost Value = { List ℕ };
+
+    ghost coded = { coded_list coded_ℕ };
+
+    ghost view = { λ l. l.path.now };
+}
+
+/// Locks a store's folder, so that it has one server at a time. No file is created for the lock.
 ///
 /// No contract can say what the system answers.
-pub fn lock_folder<F: Files>(files: &F, folder: &str) -> Result<F::File, LockFault>
+pub fn lock_folder<'a, F: Files>(
+    files: &F,
+    folder: &'a str,
+) -> Result<FolderLock<'a, F::File>, LockFault>
 where
     F::File: LockFile,
+    ensures { IfOk result (λ lock. lock ≡ folder.now) }
 {
     let Ok(file) = File::open(files, folder) else {
         return Err(LockFault::Device);
     };
     match file.try_lock_whole() {
-        Ok(()) => Ok(file),
+        Ok(()) => Ok(FolderLock { path: folder, file }),
         Err(TryLockError::WouldBlock) => Err(LockFault::InUse),
         Err(TryLockError::Error(_)) => Err(LockFault::Unlockable),
     }
@@ -78,13 +101,15 @@ where
 /// Locks a store's folder, and then opens its files as a disk. The error is how a run for many connections ends:
 /// `InUse`, `Unlockable`, or `Store(Device)` if the folder or its files can't be opened. Nothing of the store was read
 /// or written.
-pub fn lock_disk<F: Files + Drop + Copy>(
+pub fn lock_disk<'a, F: Files + Drop + Copy>(
     alloc: Global,
     files: F,
-    folder: &str,
-) -> Result<(F::File, FileDisk<HostFolder<F>>), SocketEnd>
+    folder: &'a str,
+) -> Result<(FolderLock<'a, F::File>, FileDisk<HostFolder<F>>), SocketEnd>
 where
     F::File: LockFile,
+    ensures same { IfOk result
+        (λ locked. (locked.0 ≡ folder.now) × (string_bytes locked.1.folder.path ≡ folder.now)) }
     ensures faults { IfErr result (λ end. (end ≡ SocketEnd.InUse) ⊎ ((end ≡ SocketEnd.Unlockable)
         ⊎ (end ≡ SocketEnd.Store StoreFault.Device))) }
 {

@@ -1,5 +1,6 @@
-ghost use Rattle.std.specs.Prelude.{◌≡◌, ◌++◌, Some, length, codes, option_map, IfErr, IfSome, OnErr, OnOk};
+ghost use Rattle.std.specs.Prelude.{◌≡◌, ◌∷◌, [], ◌++◌, Some, map, codes, option_map, IfErr, IfSome, OnErr, OnOk};
 ghost use Rattle.std.specs.Io.KnownBytes.{Appends};
+ghost use Rattle.std.specs.String.{string_bytes};
 ghost use Rattle.server.specs.Program.{EndsAlone, IsRun, RunsInFolder, ServesFrom, line_of, status_of, words_of};
 ghost use Rattle.wire.specs.Writing.{AppendsPart};
 
@@ -105,9 +106,8 @@ where
         (end : LoneEnd) × (result ≡ status_of end) × AppendsPart (E.contents errors.old) (E.contents errors.new)
         (line_of end)
         × EndsAlone ⟦<FileDisk<HostFolder<&'a F>> as Disk>⟧.honest ⟦<FileDisk<HostFolder<&'a F>> as Disk>⟧.view bytes
-        before
-        (I.remaining input.new) (O.contents output.new)
-        (option_map (λ encodings. length encodings.now) words.entry) end)) }
+        before (I.remaining input.new) (O.contents output.new) (λ disk. string_bytes disk.folder.path)
+        (option_map (λ texts. map string_bytes texts.now) words.entry) end)) }
 {
     let end = run_alone(alloc, files, words, input, output);
     let _ = end.tell(errors);
@@ -126,8 +126,8 @@ where
     F::File: LockFile,
     ensures ended { IfSome (I.remaining input.old) (λ bytes. IfSome (O.contents output.old) (λ before.
         EndsAlone ⟦<FileDisk<HostFolder<&'a F>> as Disk>⟧.honest ⟦<FileDisk<HostFolder<&'a F>> as Disk>⟧.view bytes
-        before (I.remaining input.new) (O.contents output.new)
-        (option_map (λ encodings. length encodings.now) words.entry) result)) }
+        before (I.remaining input.new) (O.contents output.new) (λ disk. string_bytes disk.folder.path)
+        (option_map (λ texts. map string_bytes texts.now) words.entry) result)) }
 {
     let Some([store]) = words else {
         return LoneEnd::CommandLine;
@@ -152,7 +152,8 @@ fn serve_locked<'a, F: Files, I: Read, O: Write>(
 ) -> LoneEnd
     ensures ended { IfSome (I.remaining input.old) (λ bytes. IfSome (O.contents output.old) (λ before.
         EndsAlone ⟦<FileDisk<HostFolder<&'a F>> as Disk>⟧.honest ⟦<FileDisk<HostFolder<&'a F>> as Disk>⟧.view bytes
-        before (I.remaining input.new) (O.contents output.new) (Some 1) result)) }
+        before (I.remaining input.new) (O.contents output.new) (λ disk. string_bytes disk.folder.path)
+        (Some (folder.now ∷ [])) result)) }
 {
     match serve_folder(alloc, files, folder, input, output) {
         Ok(()) => LoneEnd::Served,
@@ -170,7 +171,7 @@ fn serve_folder<'a, F: Files, I: Read, O: Write>(
 ) -> Result<(), ServeFault>
     ensures run { IfSome (I.remaining input.old) (λ bytes. IfSome (O.contents output.old) (λ before.
         RunsInFolder ⟦<FileDisk<HostFolder<&'a F>> as Disk>⟧.honest ⟦<FileDisk<HostFolder<&'a F>> as Disk>⟧.view bytes
-        before (I.remaining input.new) (O.contents output.new) result)) }
+        before (I.remaining input.new) (O.contents output.new) (λ disk. string_bytes disk.folder.path) folder.now result)) }
 {
     let Ok(disk) = FileDisk::at(alloc, files, folder) else {
         return Err(ServeFault::Store(StoreFault::Device));

@@ -1,6 +1,6 @@
 //! Entries and entry blocks of a history, for tests.
 
-use history::{AddFault, Entry, EntryBlock, FirstBlock, Past};
+use history::{AddFault, Entry, EntryBlock, Founding, Past};
 use ipc_model::{Call, PlainCall, PlainReply, Record, Reply};
 use std::alloc::{AllocError, Global};
 use std::sync::Arc;
@@ -16,12 +16,12 @@ fn entry_of(space: u32) -> Entry {
 }
 
 /// Adds an entry, of a call of a space.
-pub(crate) fn add<L: FirstBlock>(past: &mut Past<L>, space: u32) -> Result<(), AddFault> {
+pub(crate) fn add<L: Founding>(past: &mut Past<L>, space: u32) -> Result<(), AddFault> {
     past.add(entry_of(space))
 }
 
 /// Adds an entry to two that have as many in as many entry blocks.
-pub(crate) fn add_to_both<L: FirstBlock>(
+pub(crate) fn add_to_both<L: Founding>(
     past: &mut Past<L>,
     other: &mut Past<L>,
     space: u32,
@@ -36,7 +36,7 @@ pub(crate) fn add_to_both<L: FirstBlock>(
 }
 
 /// Returns the space of the call at a place of the entry block, if it has one there.
-pub(crate) fn space_at<L: FirstBlock>(past: &mut Past<L>, at: usize) -> Option<u32> {
+pub(crate) fn space_at<L: Founding>(past: &mut Past<L>, at: usize) -> Option<u32> {
     let note = past.note(at)?;
     Some(past.record(at, note).space)
 }
@@ -50,7 +50,7 @@ pub(crate) fn row_of(
 }
 
 /// Goes on in a new entry block.
-pub(crate) fn begin_block<L: FirstBlock>(
+pub(crate) fn begin_block<L: Founding>(
     alloc: Global,
     past: &mut Past<L>,
     capacity: usize,

@@ -4,7 +4,7 @@ ghost use Rattle.std.specs.Arc.{arc_value};
 
 use crate::entries::{add, add_to_both, begin_block, row_of, space_at};
 use crate::expect::same;
-use history::{AddFault, CatchUpFault, EntryBlock, FirstBlock, Past};
+use history::{AddFault, CatchUpFault, EntryBlock, Founding, Past};
 use std::alloc::{AllocError, Global};
 use std::marker::Brand;
 use std::sync::Arc;
@@ -25,18 +25,18 @@ struct Seen {
     spaces: [Option<u32>; 3],
 }
 
-fn fill<L: FirstBlock>(alloc: Global, past: &mut Past<L>) -> [Result<(), AddFault>; 4] {
+fn fill<L: Founding>(alloc: Global, past: &mut Past<L>) -> [Result<(), AddFault>; 4] {
     let last = add(past, 11);
     let full = add(past, 12);
     let begun = begin_block(alloc, past, 2);
     [last, full, begun, add(past, 13)]
 }
 
-fn read<L: FirstBlock>(late: &mut Past<L>) -> [Option<u32>; 3] {
+fn read<L: Founding>(late: &mut Past<L>) -> [Option<u32>; 3] {
     [space_at(late, 0), space_at(late, 1), space_at(late, 2)]
 }
 
-fn see<L: FirstBlock>(alloc: Global, past: &mut Past<L>, late: &mut Past<L>) -> Seen {
+fn see<L: Founding>(alloc: Global, past: &mut Past<L>, late: &mut Past<L>) -> Seen {
     let added = fill(alloc, past);
     let agreed = late.agree(past);
     let caught_up = late.catch_up(past);
@@ -54,7 +54,7 @@ fn see<L: FirstBlock>(alloc: Global, past: &mut Past<L>, late: &mut Past<L>) -> 
 }
 
 /// Both have the first entry of an entry block of two.
-fn see_from<L: FirstBlock>(alloc: Global, row: Arc<EntryBlock, Global>) -> Result<Seen, AllocError>
+fn see_from<L: Founding>(alloc: Global, row: Arc<EntryBlock, Global>) -> Result<Seen, AllocError>
     requires { arc_value row ≡ L.first }
 {
     let mut past: Past<L> = Past::new(alloc, row);

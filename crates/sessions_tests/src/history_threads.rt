@@ -4,26 +4,26 @@ ghost use Rattle.std.specs.Arc.{arc_value};
 
 use crate::entries::{add, row_of, space_at};
 use crate::expect::same;
-use history::{EntryBlock, FirstBlock, Past};
+use history::{EntryBlock, Founding, Past};
 use std::alloc::{AllocError, Global};
 use std::marker::Brand;
 use std::sync::Arc;
 use std::thread::{Threads, join};
 
 /// Adds an entry, and says whether it could.
-fn tried<L: FirstBlock>(mut past: Past<L>, space: u32) -> (bool, Past<L>) {
+fn tried<L: Founding>(mut past: Past<L>, space: u32) -> (bool, Past<L>) {
     let added = add(&mut past, space).is_ok();
     (added, past)
 }
 
 /// The space of the first call that one learns of another.
-fn first_of<L: FirstBlock>(shorter: &mut Past<L>, longer: &mut Past<L>) -> Option<u32> {
+fn first_of<L: Founding>(shorter: &mut Past<L>, longer: &mut Past<L>) -> Option<u32> {
     let _ = shorter.catch_up(longer);
     space_at(shorter, 0)
 }
 
 /// What the one whose entry wasn't added learns of the other, and what was added.
-fn read_by_the_other<L: FirstBlock>(
+fn read_by_the_other<L: Founding>(
     first: bool,
     one: &mut Past<L>,
     other: &mut Past<L>,
@@ -37,7 +37,7 @@ fn read_by_the_other<L: FirstBlock>(
 
 /// Two threads add an entry to the same entry block. Returns whether exactly one did, and the other learns what it
 /// added.
-fn raced<L: FirstBlock + Send + Sync, R: Threads + Sync>(
+fn raced<L: Founding + Send + Sync, R: Threads + Sync>(
     rt: &R,
     alloc: Global,
     row: Arc<EntryBlock, Global>,

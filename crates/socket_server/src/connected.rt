@@ -90,6 +90,22 @@ impl<'a, L: Founding, D: Disk, G, R, P> Connected<'a, L, D, G, R, P> {
     }
 }
 
+impl<'a, L: Founding, D: Disk, G: Drop, R: Wait, P> Connected<'a, L, D, G, R, P> {
+    /// Takes the turn in which the next call is made. If none is held, or the next call has to wait for an epoch, which
+    /// doesn't begin while the lock is held, a new one begins.
+    fn take_turn(&mut self) -> Turn<'a, L>
+        ensures { self.new ≡ self.old }
+    {
+        if let Some(turn) = self.turn.take() {
+            if !turn.awaits_epoch() {
+                return turn;
+            }
+            self.shared.end_turn(turn);
+        }
+        self.shared.begin_turn(self.rt)
+    }
+}
+
 impl<'a, L: Founding, D: Disk, G: Drop, R: Wait, P: Peer> Asker for Connected<'a, L, D, G, R, P> {
     type Ticket = Asked;
 
@@ -117,23 +133,13 @@ impl<'a, L: Founding, D: Disk, G: Drop, R: Wait, P: Peer> Asker for Connected<'a
         ensures makes { IfSome result (λ asked. MakesOne L.base self.old (Request.One call.now) asked self.new) }
         ensures lacks { IfNone result (LacksOne L.base self.old (Request.One call.now) self.new) }
     {
+        let mut turn = self.take_turn();
         let Some(session) = self.session.take() else {
             unreachable!()
         };
-        if let Some(turn) = self.turn.take_if(|turn| turn.awaits_epoch()) {
-            self.shared.end_turn(turn);
-        }
-        let (session, made) = make(
-            self.rt,
-            self.shared,
-            &mut self.turn,
-            &self.seat,
-            self.since,
-            session,
-            call,
-            may_wait,
-        );
+        let (session, made) = make(&mut turn, &self.seat, self.since, session, call, may_wait);
         self.session = Some(session);
+        self.turn = Some(turn);
         made
     }
 
@@ -142,22 +148,14 @@ impl<'a, L: Founding, D: Disk, G: Drop, R: Wait, P: Peer> Asker for Connected<'a
         ensures makes { IfSome result (λ asked. MakesOne L.base self.old Request.Confine asked self.new) }
         ensures lacks { IfNone result (LacksOne L.base self.old Request.Confine self.new) }
     {
+        let mut turn = self.take_turn();
         let Some(session) = self.session.take() else {
             unreachable!()
         };
-        if let Some(turn) = self.turn.take_if(|turn| turn.awaits_epoch()) {
-            self.shared.end_turn(turn);
-        }
-        let (session, since, made) = confine(
-            self.rt,
-            self.shared,
-            &mut self.turn,
-            &self.seat,
-            self.since,
-            session,
-        );
+        let (session, since, made) = confine(&mut turn, &self.seat, self.since, session);
         self.session = Some(session);
         self.since = since;
+        self.turn = Some(turn);
         made
     }
 

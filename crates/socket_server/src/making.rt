@@ -1,4 +1,4 @@
-//! How the calls of a connection are made: each in a turn, which is held or begun for it.
+//! How the calls of a connection are made.
 ghost use Rattle.std.specs.Prelude.{◌≡◌, Some, is_some, IfNone, IfSome, if◌then◌else◌};
 ghost use Rattle.frame_service.specs.Confining.{attach_to, made_of, shown_for};
 ghost use Rattle.frame_service.specs.declared.confining.Shown.TheVariants.{ToConfine};
@@ -8,43 +8,14 @@ ghost use Rattle.keepers.specs.Destroying.{MadeSince};
 ghost use Rattle.keepers.specs.Tokens.{Did};
 
 use crate::asked::Asked;
-use disk::Disk;
 use frame_service::{Shown, attach_to, is_kept};
 use ipc_model::Call;
-use sessions::{Founding, Peer, Seat, Session, Shared, Turn};
-use std::sync::Wait;
+use sessions::{Founding, Peer, Seat, Session, Turn};
 use system::Ticket;
 
 /// Makes a call of a session. If it is confined since it had seen so many records, an attach isn't made: it only asks
 /// whether its own space is there.
-pub(crate) fn make<'a, L: Founding, D: Disk, G: Drop, R: Wait, P: Peer>(
-    rt: &R,
-    shared: &'a Shared<L, D, G>,
-    turn: &mut Option<Turn<'a, L>>,
-    seat: &Seat<P>,
-    since: Option<u64>,
-    session: Session<L>,
-    call: &Call,
-    may_wait: bool,
-) -> (Session<L>, Option<Asked>)
-    ensures made { IfSome result.1 (λ asked. MadeSince L.base since session
-        (made_of (is_some since) session.task.space call.now) asked.ticket result.0
-        × (asked.shown ≡ shown_for (is_some since) call.now)) }
-    ensures lacks { IfNone result.1 (Did L.base session looked result.0) }
-{
-    match turn {
-        Some(turn) => make_in(turn, seat, since, session, call, may_wait),
-        None => {
-            let mut turn = shared.begin_turn(rt);
-            let made = make_in(&mut turn, seat, since, session, call, may_wait);
-            shared.end_turn(turn);
-            made
-        }
-    }
-}
-
-/// Makes it in a turn.
-fn make_in<L: Founding, P: Peer>(
+pub(crate) fn make<L: Founding, P: Peer>(
     turn: &mut Turn<'_, L>,
     seat: &Seat<P>,
     since: Option<u64>,
@@ -103,32 +74,7 @@ fn attach_again<L: Founding, P: Peer>(
 
 /// Confines a session to the space that it is in, if that is there. Returns how many records it had seen when it was
 /// confined.
-pub(crate) fn confine<'a, L: Founding, D: Disk, G: Drop, R: Wait, P: Peer>(
-    rt: &R,
-    shared: &'a Shared<L, D, G>,
-    turn: &mut Option<Turn<'a, L>>,
-    seat: &Seat<P>,
-    since: Option<u64>,
-    session: Session<L>,
-) -> (Session<L>, Option<u64>, Option<Asked>)
-    ensures made { IfSome result.2 (λ asked. MadeSince L.base since session (attach_to session.task.space) asked.ticket
-        result.0 × (asked.shown ≡ ToConfine)
-        × (result.1 ≡ (if succeeded asked.ticket.answer then Some result.0.task.seen else since))) }
-    ensures lacks { IfNone result.2 (Did L.base session looked result.0 × (result.1 ≡ since)) }
-{
-    match turn {
-        Some(turn) => confine_in(turn, seat, since, session),
-        None => {
-            let mut turn = shared.begin_turn(rt);
-            let made = confine_in(&mut turn, seat, since, session);
-            shared.end_turn(turn);
-            made
-        }
-    }
-}
-
-/// Confines it in a turn.
-fn confine_in<L: Founding, P: Peer>(
+pub(crate) fn confine<L: Founding, P: Peer>(
     turn: &mut Turn<'_, L>,
     seat: &Seat<P>,
     since: Option<u64>,

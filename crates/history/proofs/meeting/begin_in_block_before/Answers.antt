@@ -10,7 +10,7 @@ compare_last-requires-clause-within g c =
     let starts = rw (c.agree.ensures.same.0, c.agree.ensures.same.1) at c.in-Some.ensures.start in
     let less : length mine ≤ length theirs = omega (arith, c.requires.blocks) in
     let left =
-    beyond g.L.FirstBlock.first mine theirs _ _ _ _ c.in-Some.start c.requires.notes c.requires.more
+    beyond g.L.Founding.first mine theirs _ _ _ _ c.in-Some.start c.requires.notes c.requires.more
     c.requires.leads (c.agree.ensures.begins less) starts in (
       omega (arith, c.args.notes.now.ok),
       omega (arith, left.0, c.args.notes.now.ok, length-map c.args.more.now.items (λ n. n.cell)),
@@ -23,7 +23,7 @@ compare_last-requires-clause-cell g c = λ some.
     let starts = rw (c.agree.ensures.same.0, c.agree.ensures.same.1) at c.in-Some.ensures.start in
     let less : length mine ≤ length theirs = omega (arith, c.requires.blocks) in
     let left =
-    beyond g.L.FirstBlock.first mine theirs _ _ _ _ c.in-Some.start c.requires.notes c.requires.more
+    beyond g.L.Founding.first mine theirs _ _ _ _ c.in-Some.start c.requires.notes c.requires.more
     c.requires.leads (c.agree.ensures.begins less) starts in
     left.1 (c.len-long.result - 1)
     (omega (arith, some, c.args.notes.now.ok, length-map c.args.notes.now.items (λ n. n.cell)))
@@ -36,7 +36,7 @@ returns-clause-less g c = λ answered.
     let starts = rw (c.agree.ensures.same.0, c.agree.ensures.same.1) at c.in-Some.ensures.start in
     let less : length mine ≤ length theirs = omega (arith, c.requires.blocks) in
     let left =
-    beyond g.L.FirstBlock.first mine theirs _ _ _ _ c.in-Some.start c.requires.notes c.requires.more
+    beyond g.L.Founding.first mine theirs _ _ _ _ c.in-Some.start c.requires.notes c.requires.more
     c.requires.leads (c.agree.ensures.begins less) starts in
     omega (arith, left.0, c.args.notes.now.ok, length-map c.args.more.now.items (λ n. n.cell))
 
@@ -47,7 +47,7 @@ returns-clause-cells g c = λ answered.
     let starts = rw (c.agree.ensures.same.0, c.agree.ensures.same.1) at c.in-Some.ensures.start in
     let less : length mine ≤ length theirs = omega (arith, c.requires.blocks) in
     let front =
-    front_cells g.L.FirstBlock.first mine theirs _ _ _ _ c.in-Some.start c.requires.notes c.requires.more
+    front_cells g.L.Founding.first mine theirs _ _ _ _ c.in-Some.start c.requires.notes c.requires.more
     c.requires.leads (c.agree.ensures.begins less) starts
     (omega (arith, c.args.notes.now.ok, length-map c.args.notes.now.items (λ n. n.cell))) in
     front ∙ ap (λ k. take k (map (λ n. n.cell) c.args.more.now.items)) (length-map c.args.notes.now.items (λ n. n.cell))

@@ -7,7 +7,7 @@ compare_at-requires-clause-cell g c =
     let so_far = c.loop-at.invariant in
     let at = ap (λ l. slice_get l c.loop-at.at) (sym so_far.1) ∙ c.again_at-note.ensures.note in
     rw so_far.0 (same_link_cell (λ n. n.cell)
-    (λ n. n.known) g.L.FirstBlock.first c.args.mine.now.items c.args.theirs.now.items c.again_at-note.result
+    (λ n. n.known) g.L.Founding.first c.args.mine.now.items c.args.theirs.now.items c.again_at-note.result
     c.loop-at.at c.requires.mine c.requires.theirs so_far.2 at (omega arith))
 
 pub loop-at-preserved : goal.loop-at-preserved
@@ -17,6 +17,6 @@ loop-at-preserved g c =
     let known = rw so_far.0 at c.compare_at.ensures.known in (
       c.compare_at.ensures.same ∙ so_far.0,
       c.again_at-note.ensures.same ∙ so_far.1,
-      links_next (λ n. n.cell) (λ n. n.known) g.L.FirstBlock.first c.args.mine.now.items c.args.theirs.now.items
+      links_next (λ n. n.cell) (λ n. n.known) g.L.Founding.first c.args.mine.now.items c.args.theirs.now.items
           c.again_at-note.result c.loop-at.at c.requires.mine c.requires.theirs so_far.2 at (omega arith) known,
     )

@@ -1,4 +1,4 @@
-use Rattle.std.proofs.Common.{Err, ap, sym, subst, ◌∙◌}
+use Rattle.std.proofs.Common.{inl, Err, ap, sym, subst, ◌∙◌}
 use Rattle.std.proofs.lemmas.Result.{err_from_is_err_and}
 use Rattle.checkpoint.specs.Images.{open_image, unwritten}
 use Rattle.disk.specs.Moments.{one_more}
@@ -151,6 +151,7 @@ returns-clause-opened g c = λ honest.
     (subst (λ (s : State). Recovered (as_written old.seen) s) same
     (fresh_recovered old.seen
     (unused_fresh old.seen (c.requires.unused honest) (c.in_ok-have_no_batch.ensures.new honest))))
+    (inl (c.requires.unused honest, last.ensures.epoch))
     (subst (λ (s : State). IsKept new last.segment s) same (last.ensures.kept honest))
 
 pub returns-clause-failures : goal.returns-clause-failures

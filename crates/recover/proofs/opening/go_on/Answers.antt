@@ -1,4 +1,4 @@
-use Rattle.std.proofs.Common.{◌≡◌, Err, ap, refl, sym, subst, ◌∙◌}
+use Rattle.std.proofs.Common.{◌≡◌, inl, inr, Err, ap, refl, sym, subst, ◌∙◌}
 use Rattle.std.proofs.lemmas.Result.{err_from_is_err_and}
 use Rattle.codes.specs.StoreVersion.{version_number}
 use Rattle.disk.specs.Moments.{one_more}
@@ -13,7 +13,7 @@ use Rattle.store_layout.specs.Standing.{as_written}
 use Rattle.recover.proofs.Faults.{counts_device, counts_memory, counts_ok, counts_passed, device_no_damage, memory_no_damage, of_device, of_memory, opens_as, opens_device, opens_nothing}
 use Rattle.recover.proofs.Joined.{still_then_same}
 use Rattle.recover.proofs.Rest.{rest_kept}
-use Rattle.recover.proofs.Upgraded.{to_end, upgrade_fits}
+use Rattle.recover.proofs.Upgraded.{continues, to_end, upgrade_fits}
 use Rattle.recover.proofs.Ways.{one_found, one_parts, read_damaged, still_same}
 use Rattle.recover.proofs.opening.go_on.Goals as goal
 
@@ -136,6 +136,12 @@ returns-clause-opened g c = λ honest.
     (subst (λ (k : State). Recovered (as_written old.seen) k)
     (sym (last.ensures.same ∙ c.in_ok-kernel-2.ensures.base))
     (one_found old.seen e read.kernel read.records read.end parts))
+    (inr (inl (
+      e,
+      c.requires.used honest,
+      continues old.seen e last.segment.epoch read.version read.kernel c.in_ok-kernel-2.upgrade (read.ensures.says honest)
+          c.in_ok-kernel-2.ensures.upgrade last.ensures.epoch,
+    )))
     (subst (λ (k : State). IsKept new last.segment k) (sym last.ensures.same) (last.ensures.kept honest))
 
 pub returns-clause-failures : goal.returns-clause-failures

@@ -1,4 +1,4 @@
-use Rattle.std.proofs.Common.{◌≡◌, ◌+◌, Err, ap, sym, subst, ◌∙◌}
+use Rattle.std.proofs.Common.{◌≡◌, ℕ, inr, ◌+◌, Err, Option, ap, sym, subst, ◌∙◌}
 use Rattle.std.proofs.lemmas.Result.{err_from_is_err_and}
 use Rattle.codes.specs.StoreVersion.{version_number}
 use Rattle.disk.specs.Moments.{one_more}
@@ -8,14 +8,15 @@ use Rattle.ipc_model.specs.store.Recovery.{Recovered, version_of}
 use Rattle.recover.specs.Kept.{IsKept}
 use Rattle.slot_steps.specs.Steps.{segment_slot}
 use Rattle.store_layout.specs.Standing.{as_written}
-use Rattle.checkpoint.specs.Images.{open_image}
+use Rattle.checkpoint.specs.Images.{ImageValue, open_image}
 use Rattle.disk.proofs.Moments.{reads_then}
 use Rattle.ipc_model.specs.encodings.Images.{image_encoding}
 use Rattle.ipc_model.specs.store.Store.{EncodesSegment}
 use Rattle.recover.specs.Replayed.{ReplaysAll}
+use Rattle.recover.specs.Upgrading.{upgraded_epoch}
 use Rattle.recover.proofs.Faults.{counts_device, counts_memory, counts_ok, counts_passed, counts_then, device_no_damage, memory_no_damage, of_device, of_memory, opens_as, opens_device, opens_nothing}
 use Rattle.recover.proofs.Joined.{next_end_same, next_image_same, next_read, next_says, rested_after_image}
-use Rattle.recover.proofs.Upgraded.{to_end, upgrade_fits}
+use Rattle.recover.proofs.Upgraded.{continues, to_end, upgrade_fits}
 use Rattle.recover.proofs.Ways.{next_damaged, next_found, next_parts, read_damaged, still_same}
 use Rattle.recover.proofs.opening.go_on_next.Goals as goal
 
@@ -307,6 +308,15 @@ returns-clause-opened g c = λ honest.
     (subst (λ (k : State). Recovered (as_written old.seen) k)
     (sym (last.ensures.same ∙ ap (λ r. r.0) c.in_ok-kernel-3.ensures.value ∙ c.in_ok-kernel-2.ensures.base))
     (next_found old.seen e content next.kernel next.records next.end parts))
+    (inr (inr (
+      e,
+      c.requires.used honest,
+      continues old.seen (e + 1) last.segment.epoch next.version next.kernel c.in_ok-kernel-2.upgrade
+          (subst (λ (d : Slots). version_of (slot_of d (segment_slot (e + 1))) ≡ version_number next.version)
+          (read.ensures.reads_only honest).seen (next.ensures.says honest)) c.in_ok-kernel-2.ensures.upgrade
+          (last.ensures.epoch
+          ∙ ap (λ (o : Option ImageValue). upgraded_epoch (e + 1) o) (ap (λ r. r.1) c.in_ok-kernel-3.ensures.value)),
+    )))
     (subst (λ (k : State). IsKept new last.segment k) (sym last.ensures.same) (last.ensures.kept honest))
 
 pub returns-clause-failures : goal.returns-clause-failures

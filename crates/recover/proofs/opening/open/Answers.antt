@@ -51,3 +51,6 @@ returns-in-Ok-clause-kept g c = λ honest. (c.in-Ok.ensures.opened honest).kept
 
 pub returns-in-Ok-clause-quiet : goal.returns-in-Ok-clause-quiet
 returns-in-Ok-clause-quiet g c = c.in-Ok.ensures.failures.quiet
+
+pub returns-in-Ok-clause-epoch : goal.returns-in-Ok-clause-epoch
+returns-in-Ok-clause-epoch g c = λ honest. (c.in-Ok.ensures.opened honest).epoch

@@ -1,6 +1,5 @@
 use Rattle.std.specs.Arc.{arc_value}
 use Rattle.sessions_tests.proofs.history_blocks.seen_on_new.Given as goal
 
--- the entry block that was just made
 abbrev pub ghosts-see_from : goal.ghosts-see_from
 ghosts-see_from a = record { first = arc_value a.row }

@@ -4,13 +4,7 @@ use Rattle.socket_server.proofs.program.serve_opened.Given as goal
 -- the history begins in the opened state, with the entry block, the ledger and the mark that were just made
 
 abbrev pub ghosts-serve_history-L-Founding : goal.ghosts-serve_history-L-Founding
-ghosts-serve_history-L-Founding g a = record { base = a.opened.kernel }
+ghosts-serve_history-L-Founding g a = record { first = arc_value a.block; table = a.mark; base = a.opened.kernel }
 
 abbrev pub ghosts-serve_history-L-Ledger : goal.ghosts-serve_history-L-Ledger
 ghosts-serve_history-L-Ledger g a = record { name = a.blank.name; parts = a.blank.parts }
-
-abbrev pub ghosts-serve_history-L-FirstBlock : goal.ghosts-serve_history-L-FirstBlock
-ghosts-serve_history-L-FirstBlock g a = record { first = arc_value a.block }
-
-abbrev pub ghosts-serve_history-L-Marking : goal.ghosts-serve_history-L-Marking
-ghosts-serve_history-L-Marking g a = record { table = a.mark }

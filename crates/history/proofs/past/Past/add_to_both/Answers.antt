@@ -41,7 +41,7 @@ compare_last-requires-clause-cell g c = λ some.
     ∙ (sym c.requires.blocks ∙ sym (ap (λ (v : PastValue). v.blocks) now)) in
     let links = same_whole c.other.inside.place.links c.self.inside.place.links long c.agree.ensures.begins in
     rw c.in_ok-reserve.ensures.items
-    (alongside g.L.FirstBlock.first c.other.inside.place.links c.self.inside.place.links _ _ _ _
+    (alongside g.L.Founding.first c.other.inside.place.links c.self.inside.place.links _ _ _ _
     (c.len-own.result - 1) c.other.invariant.notes c.self.invariant.notes links
     (omega (
       arith,
@@ -128,7 +128,7 @@ invariant_of-other-in-Ok g c =
       ap length c.in_ok-reserve.ensures.items,
     ))) in
     rw c.agree.ensures.same.0 (learned (λ n. n.cell)
-    (λ n. n.known) g.L.FirstBlock.first c.other.inside.place c.self.inside.place items all
+    (λ n. n.known) g.L.Founding.first c.other.inside.place c.self.inside.place items all
     c.copy_rest.new.notes.items c.other.invariant c.self.invariant links less begins more).0
 
 pub returns-in-Ok-clause-ok : goal.returns-in-Ok-clause-ok
@@ -170,7 +170,7 @@ returns-in-Ok-clause-ok g c =
       ap length c.in_ok-reserve.ensures.items,
     ))) in
     let whole =
-    (learned (λ n. n.cell) (λ n. n.known) g.L.FirstBlock.first c.other.inside.place c.self.inside.place items all
+    (learned (λ n. n.cell) (λ n. n.known) g.L.Founding.first c.other.inside.place c.self.inside.place items all
     c.copy_rest.new.notes.items c.other.invariant c.self.invariant links less begins more).1 in
     let kept =
     ap (λ l. known_entries (map (λ n. n.known) l))

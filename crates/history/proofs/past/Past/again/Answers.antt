@@ -9,7 +9,7 @@ invariant_of-result g c =
     let items =
     c.copy_rest.ensures.new ∙ ap (λ l. l ++ drop (length l) c.self.inside.notes.items) c.in_ok-notes.ensures.items
     in
-    again (λ n. n.cell) (λ n. n.known) g.L.FirstBlock.first c.self.inside.place c.in_ok-place.place
+    again (λ n. n.cell) (λ n. n.known) g.L.Founding.first c.self.inside.place c.in_ok-place.place
     c.self.inside.notes.items c.copy_rest.new.notes.items c.self.invariant c.in_ok-place.ensures.place items
 
 pub returns-clause-past : goal.returns-clause-past

@@ -13,7 +13,7 @@ compare_last-requires-clause-cell g c = λ some.
     ap (λ (v : PastValue). v.blocks) c.self.view_is
     ∙ (c.requires ∙ sym (ap (λ (v : PastValue). v.blocks) c.other.view_is)) in
     let same = same_whole mine theirs long c.agree.ensures.begins in
-    alongside g.L.FirstBlock.first mine theirs _ _ _ _
+    alongside g.L.Founding.first mine theirs _ _ _ _
     (c.min-both.result - 1) c.self.invariant.notes c.other.invariant.notes same
     (omega (arith, some, c.self.inside.notes.ok, length-map c.self.inside.notes.items (λ n. n.cell)))
     (omega (arith, some, c.other.inside.notes.ok, length-map c.other.inside.notes.items (λ n. n.cell)))

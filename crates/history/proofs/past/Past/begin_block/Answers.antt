@@ -11,7 +11,7 @@ invariant_of-self-2 g c =
     let long : c.len.result ≡ length (map (λ n. n.cell) c.self.inside.notes.items) =
     omega (arith, c.self.inside.notes.ok, length-map c.self.inside.notes.items (λ n. n.cell)) in
     rw c.in_ok-begin.ensures.ok
-    (past_next g.L.FirstBlock.first
+    (past_next g.L.Founding.first
     (arc_value c.args.block) c.self.inside.place _ _ c.len.result c.self.invariant long)
 
 pub returns-clause-ok : goal.returns-clause-ok

@@ -14,7 +14,7 @@ invariant_of-self-2 g c =
     let more : c.copy_rest.new.notes.items ≡ mine ++ drop (length mine) theirs =
     cc (c.copy_rest.ensures.new, c.in_ok-reserve.ensures.items, same.2, same.3) in
     rw (c.in_ok-place.ensures.place ∙ same.1)
-    (followed (λ n. n.cell) (λ n. n.known) g.L.FirstBlock.first c.other.inside.place mine theirs
+    (followed (λ n. n.cell) (λ n. n.known) g.L.Founding.first c.other.inside.place mine theirs
     c.copy_rest.new.notes.items c.self.invariant.notes.entries c.other.invariant
     (c.begin_in_block_before.ensures.cells answered) (c.begin_in_block_before.ensures.begins answered) more).0
 
@@ -27,7 +27,7 @@ returns-clause-moved g c = λ done.
     let more : c.copy_rest.new.notes.items ≡ mine ++ drop (length mine) theirs =
     cc (c.copy_rest.ensures.new, c.in_ok-reserve.ensures.items, same.2, same.3) in
     let all =
-    (followed (λ n. n.cell) (λ n. n.known) g.L.FirstBlock.first c.other.inside.place mine theirs
+    (followed (λ n. n.cell) (λ n. n.known) g.L.Founding.first c.other.inside.place mine theirs
     c.copy_rest.new.notes.items c.self.invariant.notes.entries c.other.invariant
     (c.begin_in_block_before.ensures.cells answered) (c.begin_in_block_before.ensures.begins answered) more).1 in
     let old = c.other.view_is in

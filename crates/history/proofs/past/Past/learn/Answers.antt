@@ -26,7 +26,7 @@ invariant_of-self-then-own-theirs g c =
     ) in
     let begins = c.compare_last.ensures.begins (omega (arith, c.self.inside.notes.ok, c.other.inside.notes.ok)) in
     rw c.agree.ensures.same.0 (learned (λ n. n.cell)
-    (λ n. n.known) g.L.FirstBlock.first place other mine theirs c.copy_rest.new.notes.items c.self.invariant c.other.invariant links
+    (λ n. n.known) g.L.Founding.first place other mine theirs c.copy_rest.new.notes.items c.self.invariant c.other.invariant links
     (omega (arith, c.self.inside.notes.ok, c.other.inside.notes.ok)) begins more).0
 
 pub returns-in_ok-reserve-clause-ok : goal.returns-in_ok-reserve-clause-ok
@@ -48,7 +48,7 @@ returns-in_ok-reserve-clause-ok g c =
     ) in
     let begins = c.compare_last.ensures.begins (omega (arith, c.self.inside.notes.ok, c.other.inside.notes.ok)) in
     let all =
-    (learned (λ n. n.cell) (λ n. n.known) g.L.FirstBlock.first place other mine theirs c.copy_rest.new.notes.items c.self.invariant c.other.invariant links
+    (learned (λ n. n.cell) (λ n. n.known) g.L.Founding.first place other mine theirs c.copy_rest.new.notes.items c.self.invariant c.other.invariant links
     (omega (arith, c.self.inside.notes.ok, c.other.inside.notes.ok)) begins more).1 in
     let own = ap (λ (v : PastValue). v.entries) c.self.view_is in
     let others = ap (λ (v : PastValue). v.entries) c.other.view_is in
@@ -81,7 +81,7 @@ returns-in_ok-reserve-clause-begins g c =
     ) in
     let begins = c.compare_last.ensures.begins (omega (arith, c.self.inside.notes.ok, c.other.inside.notes.ok)) in
     let all =
-    (learned (λ n. n.cell) (λ n. n.known) g.L.FirstBlock.first place other mine theirs c.copy_rest.new.notes.items c.self.invariant c.other.invariant links
+    (learned (λ n. n.cell) (λ n. n.known) g.L.Founding.first place other mine theirs c.copy_rest.new.notes.items c.self.invariant c.other.invariant links
     (omega (arith, c.self.inside.notes.ok, c.other.inside.notes.ok)) begins more).1 in
     rw (all, ← c.self.view_is, ← c.other.view_is) (begins, begins_itself _)
 

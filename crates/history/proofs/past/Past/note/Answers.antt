@@ -28,7 +28,7 @@ returns-clause-note g c =
     let known =
     known_entry (λ n. n.cell) (λ n. n.known) items note (place.start + c.args.at) c.self.invariant.notes.entries at in
     rw (← c.self.view_is) (
-      seen_cell (λ n. n.cell) (λ n. n.known) g.L.FirstBlock.first place.block place.links place.start c.args.at items
+      seen_cell (λ n. n.cell) (λ n. n.known) g.L.Founding.first place.block place.links place.start c.args.at items
           note c.block.ensures.here c.self.invariant.notes at,
       known.0,
       known.1,

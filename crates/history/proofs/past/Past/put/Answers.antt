@@ -9,7 +9,7 @@ use Rattle.history.proofs.past.Past.put.Goals as goal
 
 pub invariant_of-self-in-Ok : goal.invariant_of-self-in-Ok
 invariant_of-self-in-Ok g c =
-    let first = g.L.FirstBlock.first in
+    let first = g.L.Founding.first in
     let place = c.self.inside.place in
     let items = c.self.inside.notes.items in
     let long : c.len.result ≡ length items = omega (arith, c.in_ok-reserve.ensures.len, c.self.inside.notes.ok) in

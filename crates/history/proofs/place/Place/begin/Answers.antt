@@ -18,7 +18,7 @@ link_is made here block h r long is a b =
 
 pub invariant_of-self-in-Ok : goal.invariant_of-self-in-Ok
 invariant_of-self-in-Ok g c =
-    let first = g.L.FirstBlock.first in
+    let first = g.L.Founding.first in
     let block = arc_value c.args.block in
     let tells =
     link_is c.new-link.result c.of-here.result.numbers c.of-own.result.numbers
@@ -33,7 +33,7 @@ invariant_of-self-in-Ok g c =
 
 pub returns-in-Ok-clause-ok : goal.returns-in-Ok-clause-ok
 returns-in-Ok-clause-ok g c =
-    let first = g.L.FirstBlock.first in
+    let first = g.L.Founding.first in
     let block = arc_value c.args.block in
     let tells =
     link_is c.new-link.result c.of-here.result.numbers c.of-own.result.numbers

@@ -6,7 +6,7 @@ use Rattle.history.proofs.place.Place.left.Goals as goal
 
 pub compare_at-requires-clause-cell : goal.compare_at-requires-clause-cell
 compare_at-requires-clause-cell g c =
-    let first = g.L.FirstBlock.first in
+    let first = g.L.Founding.first in
     let at : c.len.result ≡ length c.args.self.now.links =
     omega (
       arith,
@@ -34,7 +34,7 @@ returns-clause-start g c =
       c.self.inside.links.ok,
       ap (λ (v : PlaceValue). length v.links) c.self.view_is,
     ) in
-    left_start (λ n. n.cell) (λ n. n.known) g.L.FirstBlock.first c.other.inside.links.items c.args.self.now.links
+    left_start (λ n. n.cell) (λ n. n.known) g.L.Founding.first c.other.inside.links.items c.args.self.now.links
     c.args.other.now.links c.len.result c.in_ok-start.start c.in_ok-start.note.known c.other.invariant.notes
     (ap (λ (v : PlaceValue). v.links) c.other.view_is) at c.requires.more c.in_ok-start.ensures.start
     c.compare_at.ensures.known
