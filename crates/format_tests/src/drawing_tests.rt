@@ -1,6 +1,6 @@
 use crate::expect::same_bytes;
 use crate::sample::sample;
-use listing::draw;
+use inspect::draw_state as draw;
 use std::alloc::Global;
 
 const TEXT: &str = r#"digraph ports {

@@ -1,6 +1,6 @@
 use crate::expect::same_bytes;
 use crate::sample::sample;
-use listing::list;
+use inspect::list_state as list;
 use std::alloc::Global;
 
 const LINES: &str = "epoch 3 records 12

@@ -3,8 +3,8 @@ use Rattle.inspect.specs.declared.fault.ListFault.{ListFault}
 use Rattle.inspect.specs.declared.fault.ListFault.TheVariants.{Store, Busy}
 use Rattle.store_fault.specs.declared.fault.StoreFault.{StoreFault}
 use Rattle.store_fault.specs.declared.fault.StoreFault.TheVariants as store
-use Rattle.still_disk.specs.declared.fault.CopyFault.{CopyFault}
-use Rattle.still_disk.specs.declared.fault.CopyFault.TheVariants as copy
+use Rattle.inspect.specs.declared.still_disk.fault.CopyFault.{CopyFault}
+use Rattle.inspect.specs.declared.still_disk.fault.CopyFault.TheVariants as copy
 
 abbrev pub of_copying : CopyFault → ListFault
 of_copying copy.Device = Store store.Device

@@ -9,8 +9,8 @@ use Rattle.ipc_model.specs.state.State.{State}
 use Rattle.ipc_model.specs.store.Recovery.{IsDamaged, IsOtherVersion}
 use Rattle.store_fault.specs.declared.fault.StoreFault.TheVariants.{Damaged, Device, NoMemory, Version}
 use Rattle.store_layout.specs.Standing.{as_written}
-use Rattle.listing.specs.Drawing.{drawing}
-use Rattle.listing.specs.Listing.{listing}
+use Rattle.inspect.specs.text.Drawing.{drawing}
+use Rattle.inspect.specs.text.Listing.{listing}
 use Rattle.recover.specs.Found.{Reads}
 use Rattle.wire.specs.Writing.{AppendsPart}
 

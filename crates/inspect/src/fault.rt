@@ -1,5 +1,5 @@
+use crate::still_disk::CopyFault;
 use std::alloc::AllocError;
-use still_disk::CopyFault;
 use store_fault::StoreFault;
 use wire::WireFault;
 

@@ -6,13 +6,13 @@ ghost use Rattle.inspect.specs.Printed.{IsOfLook};
 ghost use Rattle.ipc_model.specs.store.Recovery.{IsDamaged, IsOtherVersion};
 ghost use Rattle.recover.specs.Looked.{IsLook};
 ghost use Rattle.store_layout.specs.Standing.{as_written};
-ghost use Rattle.still_disk.specs.Still.{still_slots};
+ghost use Rattle.inspect.specs.still_disk.Still.{still_slots};
 
 use crate::ListFault;
+use crate::still_disk::{StillDisk, still_copy};
 use disk::Disk;
 use recover::{Looked, look};
 use std::alloc::Global;
-use still_disk::{StillDisk, still_copy};
 use store_fault::StoreFault;
 
 /// Returns the fault for a failed look at a copy. The copy is in memory, so the device's fault means out of memory.

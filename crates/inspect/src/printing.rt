@@ -39,7 +39,7 @@ impl Form for Lines {
     ghost text_of = { listing_of };
 
     fn append(&self, alloc: Global, look: &Looked, text: &mut Vec<u8>) -> Result<(), AllocError> {
-        listing::list(alloc, look.epoch, look.records, &look.snapshot.ipc, text)
+        crate::text::list(alloc, look.epoch, look.records, &look.snapshot.ipc, text)
     }
 }
 
@@ -53,7 +53,7 @@ impl Form for Drawing {
     ghost text_of = { drawing_of };
 
     fn append(&self, alloc: Global, look: &Looked, text: &mut Vec<u8>) -> Result<(), AllocError> {
-        listing::draw(alloc, &look.snapshot.ipc, text)
+        crate::text::draw(alloc, &look.snapshot.ipc, text)
     }
 }
 

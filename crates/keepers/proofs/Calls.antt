@@ -14,7 +14,7 @@ use Rattle.ipc_model.specs.declared.call.Call.{Call}
 use Rattle.ipc_model.specs.declared.record.Record.{Record}
 use Rattle.ipc_model.specs.history.History.{called, space_after}
 use Rattle.ipc_model.specs.state.State.{State}
-use Rattle.checkpoint_phases.specs.Passed.{unrecorded_step}
+use Rattle.store_half.specs.phases.Passed.{unrecorded_step}
 use Rattle.keepers.specs.Keeping.{Applies, entries_of_call}
 use Rattle.keepers.specs.Tokens.{SessionValue, AreOwn, Did, IsSession, entry_by, session_of}
 use Rattle.keepers.proofs.Calling.{counted}

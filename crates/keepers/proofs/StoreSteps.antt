@@ -7,9 +7,9 @@ use Rattle.ipc_model.specs.calls.Step.{Run}
 use Rattle.ipc_model.specs.state.State.{State}
 use Rattle.history.specs.Entries.{records_of}
 use Rattle.store_fault.specs.declared.fault.StoreFault.{StoreFault}
-use Rattle.checkpoint_phases.proofs.Clearing.{clear_keeps, clear_passes, clear_fails, find_keeps, find_passes}
-use Rattle.checkpoint_phases.proofs.Images.{image_close_keeps, image_close_passes, image_close_fails, piece_keeps, piece_passes, piece_fails, finish_keeps, finish_passes, finish_fails}
-use Rattle.checkpoint_phases.proofs.Rolls.{roll_close_keeps, roll_close_passes, roll_close_fails, roll_head_keeps, roll_head_passes, roll_head_fails, roll_open_keeps, roll_open_passes, roll_open_fails}
+use Rattle.store_half.proofs.phases.Clearing.{clear_keeps, clear_passes, clear_fails, find_keeps, find_passes}
+use Rattle.store_half.proofs.phases.Images.{image_close_keeps, image_close_passes, image_close_fails, piece_keeps, piece_passes, piece_fails, finish_keeps, finish_passes, finish_fails}
+use Rattle.store_half.proofs.phases.Rolls.{roll_close_keeps, roll_close_passes, roll_close_fails, roll_head_keeps, roll_head_passes, roll_head_fails, roll_open_keeps, roll_open_passes, roll_open_fails}
 use Rattle.keepers.specs.Storing.{IsStoreKeeper, KeptAt, StoreKeeperValue}
 use Rattle.keepers.proofs.Storers.{Breaks, Goes, Stepped, stepped}
 use Rattle.store_half.specs.Changes.{CanClear, CanFinish, CanOpen, ClearDone, ClearFaults, Clears, ClosesImage, FailsToClear, FailsToCloseImage, FailsToFinish, FailsToRollClose, FailsToRollHead, FailsToRollOpen, FailsToWritePiece, FindsClear, Finishes, HasImaged, HasPieceLeft, IsFault, IsFaultOrShortage, IsNotNow, IsRolled, RollsClose, RollsHead, RollsOpen, WritesPiece}

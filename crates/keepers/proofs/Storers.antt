@@ -21,11 +21,11 @@ use Rattle.journal.specs.Batch.{Holds, content_of}
 use Rattle.store_fault.specs.declared.fault.StoreFault.{StoreFault}
 use Rattle.store_fault.specs.declared.fault.StoreFault.TheVariants.{Device, Failed, Full}
 use Rattle.journal.specs.declared.segment.Segment.{Segment}
-use Rattle.checkpoint_phases.proofs.Appends.{append_keeps, append_mid, begin_keeps, kept_stands, kept_synced}
-use Rattle.checkpoint_phases.proofs.Passed.{run_join}
-use Rattle.checkpoint_phases.specs.Batches.{IsReadyBatch, with_more}
-use Rattle.checkpoint_phases.specs.Passed.{IsKept}
-use Rattle.checkpoint_phases.specs.Phases.{Keeps}
+use Rattle.store_half.proofs.phases.Appends.{append_keeps, append_mid, begin_keeps, kept_stands, kept_synced}
+use Rattle.store_half.proofs.phases.Passed.{run_join}
+use Rattle.store_half.specs.phases.Batches.{IsReadyBatch, with_more}
+use Rattle.store_half.specs.phases.Passed.{IsKept}
+use Rattle.store_half.specs.phases.Phases.{Keeps}
 use Rattle.keepers.specs.Faults.{IsWhyNotStored}
 use Rattle.keepers.specs.declared.fault.NotStored.TheVariants.{Store}
 use Rattle.keepers.specs.Storing.{CanBegin, EndValue, IsEnd, IsLoad, IsNext, IsRecorded, IsStoreKeeper, KeptAt, LoadValue, LosesNothing, StandsFor, StoreKeeperValue}

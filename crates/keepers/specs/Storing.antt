@@ -16,7 +16,7 @@ use Rattle.ipc_model.specs.store.Recovery.{IsImageOf}
 use Rattle.ipc_model.specs.store.Store.{AreRecords}
 use Rattle.ipc_model.specs.encodings.Encodings.{canonical_record}
 use Rattle.journal.specs.Batch.{BatchValue, Holds, batch_code}
-use Rattle.checkpoint_phases.specs.Phases.{Keeps}
+use Rattle.store_half.specs.phases.Phases.{Keeps}
 use Rattle.store_layout.specs.Gates.{StandForState}
 use Rattle.store_half.specs.Values.{CutValue, StoreValue, cut_code, store_code}
 

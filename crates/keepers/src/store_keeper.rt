@@ -4,7 +4,7 @@ ghost use Rattle.disk.specs.Slots.{Slots};
 ghost use Rattle.history.specs.Entries.{Begins, records_of};
 ghost use Rattle.ipc_model.specs.state.Circular.{Acyclic};
 ghost use Rattle.ipc_model.specs.state.LawfulState.{LawfulState};
-ghost use Rattle.checkpoint_phases.specs.Passed.{IsKept};
+ghost use Rattle.store_half.specs.phases.Passed.{IsKept};
 ghost use Rattle.keepers.specs.Appending.{CountsDevice, GivesLoadBack, HadFailed, OnlyFails, StoresLoad, WouldOverfill, WritesNothingElse};
 ghost use Rattle.keepers.specs.Faults.{IsWhyNotStored};
 ghost use Rattle.keepers.specs.Storing.{CanBegin, IsNext, IsRecorded, LosesNothing, StandsFor};

@@ -4,7 +4,7 @@
 
 use command_line::{question_in, read_words, tell_about};
 use relay::run_client;
-use shell::{run_shell, script_socket};
+use relay::{run_shell, script_socket};
 use std::io::{self, BufReader, BufWriter, IsTerminal};
 use std::process::ExitCode;
 use wire::WireFault;

@@ -1,2 +1,3 @@
 pub mod Relaying
 pub mod Ending
+pub mod shell

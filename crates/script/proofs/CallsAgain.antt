@@ -6,14 +6,14 @@ use Rattle.ipc_model.specs.declared.call.Call.{Call}
 use Rattle.ipc_model.specs.declared.call.Call.TheVariants.{Plain, Numbered, Unnumberable}
 use Rattle.ipc_model.specs.declared.plain_call.PlainCall.{PlainCall}
 use Rattle.ipc_model.specs.declared.plain_call.PlainCall.TheVariants as call
-use Rattle.script_words.specs.declared.kind.Kind.{Kind}
-use Rattle.script_words.specs.declared.kind.Kind.TheVariants.{Hexadecimal, Decimal, Signed, Right, Disposition, Notification, Absent}
-use Rattle.script_words.specs.declared.verb.Verb.{Verb}
-use Rattle.script_words.specs.declared.verb.Verb.TheVariants as verb
-use Rattle.script_words.specs.Kinds.{value_word}
-use Rattle.script_words.specs.Verbs.{verb_word, all_verbs}
-use Rattle.script_printing.specs.Calls.{verb_of, argument_words, call_words, plain_call_words}
-use Rattle.script_printing.specs.Messages.{flag_words}
+use Rattle.script.specs.declared.vocabulary.kind.Kind.{Kind}
+use Rattle.script.specs.declared.vocabulary.kind.Kind.TheVariants.{Hexadecimal, Decimal, Signed, Right, Disposition, Notification, Absent}
+use Rattle.script.specs.declared.vocabulary.verb.Verb.{Verb}
+use Rattle.script.specs.declared.vocabulary.verb.Verb.TheVariants as verb
+use Rattle.script.specs.vocabulary.Kinds.{value_word}
+use Rattle.script.specs.vocabulary.Verbs.{verb_word, all_verbs}
+use Rattle.script.specs.printing.Calls.{verb_of, argument_words, call_words, plain_call_words}
+use Rattle.script.specs.printing.Messages.{flag_words}
 use Rattle.script.specs.declared.plain.Arguments.{Arguments}
 use Rattle.script.specs.Calls.{HasLine, HasPlainLine, after_at, call_at, numbered_at, own_call_at, plain_call_at, receive_at, send_at}
 use Rattle.script.specs.Messages.{message_at}

@@ -6,8 +6,8 @@ use Rattle.ipc_model.specs.declared.call.Call.TheVariants.{Plain, Numbered}
 use Rattle.ipc_model.specs.declared.plain_call.PlainCall.TheVariants as call
 use Rattle.ipc_model.specs.declared.plain_reply.PlainReply.TheVariants as reply
 use Rattle.ipc_model.specs.declared.reply.Reply.TheVariants as variants
-use Rattle.script_words.specs.Kinds.{read_word}
-use Rattle.script_words.specs.Spaced.{words_of, column_of}
+use Rattle.script.specs.vocabulary.Kinds.{read_word}
+use Rattle.script.specs.vocabulary.Spaced.{words_of, column_of}
 use Rattle.script.specs.declared.fault.Expected.TheVariants as expected
 use Rattle.script.specs.declared.fault.LineFault.TheVariants as line_fault
 use Rattle.script.specs.Calls.{after_at, call_at, numbered_at, own_call_at, plain_call_at}

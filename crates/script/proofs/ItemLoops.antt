@@ -2,8 +2,8 @@
 use Rattle.std.proofs.Common.{◌≡◌, ℕ, zero, suc, ◌-◌, ◌<◌, List, [], ◌∷◌, ◌++◌, length, refl, sym, ap, ◌∙◌, arith, Option, Some, None, Ok, Err, append_assoc}
 use Rattle.std.specs.Prelude.{codes}
 use Rattle.std.proofs.lemmas.List.{append-nil}
-use Rattle.script_words.specs.declared.kind.Kind.TheVariants.{Hexadecimal}
-use Rattle.script_words.specs.Kinds.{read_word}
+use Rattle.script.specs.declared.vocabulary.kind.Kind.TheVariants.{Hexadecimal}
+use Rattle.script.specs.vocabulary.Kinds.{read_word}
 use Rattle.script.specs.declared.fault.Fault.{Fault}
 use Rattle.script.specs.declared.fault.Fault.TheVariants as fault
 use Rattle.script.specs.Bytes.{optional_bytes_at}

@@ -11,12 +11,12 @@ use Rattle.byteorder.specs.Numbers.{little_from-lt}
 use Rattle.words.specs.WordLaws.{word-little_number}
 use Rattle.words.specs.Words.{AreBytes, word}
 use Rattle.ipc_model.specs.messages.Items.{item_encoding}
-use Rattle.script_words.specs.declared.kind.Kind.{Kind}
-use Rattle.script_words.specs.declared.kind.Kind.TheVariants as kind
-use Rattle.script_words.specs.Items.{zeros, descriptor}
-use Rattle.script_words.specs.Kinds.{value_word, read_word}
-use Rattle.script_printing.specs.Bytes.{bytes_word, optional_bytes}
-use Rattle.script_printing.specs.Items.{element_kind, words_item_words, bytes_item_words, ◌>>?◌, word_front, split_front, stated_number, numbers_in, words_front, bytes_front, item_front, body_within, body_words}
+use Rattle.script.specs.declared.vocabulary.kind.Kind.{Kind}
+use Rattle.script.specs.declared.vocabulary.kind.Kind.TheVariants as kind
+use Rattle.script.specs.vocabulary.Items.{zeros, descriptor}
+use Rattle.script.specs.vocabulary.Kinds.{value_word, read_word}
+use Rattle.script.specs.printing.Bytes.{bytes_word, optional_bytes}
+use Rattle.script.specs.printing.Items.{element_kind, words_item_words, bytes_item_words, ◌>>?◌, word_front, split_front, stated_number, numbers_in, words_front, bytes_front, item_front, body_within, body_words}
 use Rattle.script.specs.declared.fault.Expected.TheVariants as expected
 use Rattle.script.specs.Bytes.{bytes_at, optional_bytes_at}
 use Rattle.script.specs.Items.{words_item, bytes_item, numbers_at, words_item_at, bytes_item_at, item_at, parts_at, body_at}

@@ -1,12 +1,12 @@
 -- Lines are read back as they are printed.
 use Rattle.std.proofs.Common.{◌≡◌, ℕ, List, [], refl, sym, ap, ◌∙◌, Option, ◌∷◌, ◌++◌, Some, None, Result, Ok, Err, append-nil}
 use Rattle.ipc_model.specs.declared.call.Call.{Call}
-use Rattle.script_words.specs.Spaced.{words_of}
-use Rattle.script_words.proofs.WordsOf.{line_again}
-use Rattle.script_printing.specs.declared.line.Exchange.{Exchange}
-use Rattle.script_printing.specs.Calls.{call_line, call_words, first_word, further_words}
-use Rattle.script_printing.specs.Lines.{exchange_words, exchange_line}
-use Rattle.script_printing.specs.Replies.{reply_words}
+use Rattle.script.specs.vocabulary.Spaced.{words_of}
+use Rattle.script.proofs.vocabulary.WordsOf.{line_again}
+use Rattle.script.specs.declared.printing.line.Exchange.{Exchange}
+use Rattle.script.specs.printing.Calls.{call_line, call_words, first_word, further_words}
+use Rattle.script.specs.printing.Lines.{exchange_words, exchange_line}
+use Rattle.script.specs.printing.Replies.{reply_words}
 use Rattle.script.specs.declared.fault.Fault.{Fault}
 use Rattle.script.specs.declared.fault.Fault.TheVariants as fault
 use Rattle.script.specs.declared.fault.LineFault.{LineFault}

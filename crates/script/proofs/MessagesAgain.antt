@@ -11,13 +11,13 @@ use Rattle.byteorder.specs.Numbers.{little_from-lt}
 use Rattle.words.specs.WordLaws.{word-little_number}
 use Rattle.words.specs.Words.{AreBytes}
 use Rattle.words.specs.Words.{word}
-use Rattle.script_words.specs.declared.kind.Kind.TheVariants as kind
-use Rattle.script_words.specs.declared.kind.Kind.TheVariants.{Hexadecimal, Decimal, Disposition}
-use Rattle.script_words.specs.declared.header.Header.{Header}
-use Rattle.script_words.specs.Kinds.{value_word, read_word}
-use Rattle.script_printing.specs.Bytes.{bytes_word}
-use Rattle.script_printing.specs.Items.{body_words}
-use Rattle.script_printing.specs.Messages.{optional_words, flag_words, local_words, header_of, header_words, message_words}
+use Rattle.script.specs.declared.vocabulary.kind.Kind.TheVariants as kind
+use Rattle.script.specs.declared.vocabulary.kind.Kind.TheVariants.{Hexadecimal, Decimal, Disposition}
+use Rattle.script.specs.declared.vocabulary.header.Header.{Header}
+use Rattle.script.specs.vocabulary.Kinds.{value_word, read_word}
+use Rattle.script.specs.printing.Bytes.{bytes_word}
+use Rattle.script.specs.printing.Items.{body_words}
+use Rattle.script.specs.printing.Messages.{optional_words, flag_words, local_words, header_of, header_words, message_words}
 use Rattle.script.specs.Items.{body_at}
 use Rattle.script.specs.Messages.{header_encoding, further_at, local_at, rights_at, header_at, message_at}
 use Rattle.script.specs.declared.fault.Expected.TheVariants as expected

@@ -10,7 +10,7 @@ use Rattle.std.proofs.Math.Nat.{mul-le-mul_left}
 use Rattle.std.proofs.lemmas.Bool.Decides.{nat_tests}
 use Rattle.std.proofs.lemmas.Fmt.{digits_is_IsNumeral}
 use Rattle.std.proofs.lemmas.Str.Parse.{digit_from_value}
-use Rattle.script_words.specs.Numbers.{hexadecimal, signed, number_from, number_after, natural, negated, number_of_word}
+use Rattle.script.specs.vocabulary.Numbers.{hexadecimal, signed, number_from, number_after, natural, negated, number_of_word}
 
 -- more digits don't make a number smaller
 pub value_grows : (radix n : ℕ) (ds : List ℕ) → 1 ≤ radix → n ≤ digits_value_after radix n ds

@@ -26,23 +26,23 @@ use Rattle.ipc_model.specs.encodings.Encodings as upper
 use Rattle.ipc_model.specs.declared.message.RightKind.{RightKind}
 use Rattle.ipc_model.specs.declared.message.RightKind.TheVariants as kind_of
 use Rattle.ipc_model.specs.encodings.PlainCalls.{FitsReply}
-use Rattle.script_words.specs.declared.kind.Kind.{Kind}
-use Rattle.script_words.specs.declared.kind.Kind.TheVariants as kind
-use Rattle.script_words.specs.declared.kind.Kind.TheVariants.{Hexadecimal, Decimal, Signed, Right, Disposition, Notification}
-use Rattle.script_words.specs.declared.header.Header.{Header}
-use Rattle.script_words.specs.declared.verb.Verb.{Verb}
-use Rattle.script_words.specs.declared.verb.Verb.TheVariants as verb
-use Rattle.script_words.specs.Codes.{code_word}
-use Rattle.script_words.specs.Kinds.{value_word}
-use Rattle.script_words.specs.Numbers.{hexadecimal, signed}
-use Rattle.script_words.specs.Spaced.{is_word_byte}
-use Rattle.script_words.specs.Verbs.{verb_word}
-use Rattle.script_words.proofs.WordsOf.{are_word_bytes, is_word, are_words}
-use Rattle.script_printing.specs.Bytes.{bytes_word, optional_bytes}
-use Rattle.script_printing.specs.Items.{element_kind, words_item_words, bytes_item_words, numbers_in, body_within, body_words}
-use Rattle.script_printing.specs.Calls.{verb_of, argument_words, call_words, plain_call_words}
-use Rattle.script_printing.specs.Messages.{optional_words, flag_words, local_words, header_of, header_words, message_words}
-use Rattle.script_printing.specs.Replies.{yes_or_no, kind_word, count_words, status_words, names_words, members_words, outcome_words, received_words, message_reply_words, plain_reply_words, reply_words}
+use Rattle.script.specs.declared.vocabulary.kind.Kind.{Kind}
+use Rattle.script.specs.declared.vocabulary.kind.Kind.TheVariants as kind
+use Rattle.script.specs.declared.vocabulary.kind.Kind.TheVariants.{Hexadecimal, Decimal, Signed, Right, Disposition, Notification}
+use Rattle.script.specs.declared.vocabulary.header.Header.{Header}
+use Rattle.script.specs.declared.vocabulary.verb.Verb.{Verb}
+use Rattle.script.specs.declared.vocabulary.verb.Verb.TheVariants as verb
+use Rattle.script.specs.vocabulary.Codes.{code_word}
+use Rattle.script.specs.vocabulary.Kinds.{value_word}
+use Rattle.script.specs.vocabulary.Numbers.{hexadecimal, signed}
+use Rattle.script.specs.vocabulary.Spaced.{is_word_byte}
+use Rattle.script.specs.vocabulary.Verbs.{verb_word}
+use Rattle.script.proofs.vocabulary.WordsOf.{are_word_bytes, is_word, are_words}
+use Rattle.script.specs.printing.Bytes.{bytes_word, optional_bytes}
+use Rattle.script.specs.printing.Items.{element_kind, words_item_words, bytes_item_words, numbers_in, body_within, body_words}
+use Rattle.script.specs.printing.Calls.{verb_of, argument_words, call_words, plain_call_words}
+use Rattle.script.specs.printing.Messages.{optional_words, flag_words, local_words, header_of, header_words, message_words}
+use Rattle.script.specs.printing.Replies.{yes_or_no, kind_word, count_words, status_words, names_words, members_words, outcome_words, received_words, message_reply_words, plain_reply_words, reply_words}
 use Rattle.script.specs.Calls.{HasLine, HasPlainLine}
 use Rattle.script.proofs.ItemsAgain.{bytes_after, item_cases, words_after_item, AreNumbers, WordsFront, BytesFront}
 use Rattle.script.proofs.MessagesAgain.{FitsHeader, fits_header}

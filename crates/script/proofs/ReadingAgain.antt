@@ -6,11 +6,11 @@ use Rattle.std.proofs.lemmas.Bool.{eqb-true}
 use Rattle.std.proofs.lemmas.Bool.Decides.{nat_tests}
 use Rattle.std.proofs.lemmas.Slice.Eq.{bytes_eq-Decides}
 use Rattle.words.specs.Words.{AreBytes}
-use Rattle.script_words.specs.declared.kind.Kind.{Kind}
-use Rattle.script_words.specs.declared.kind.Kind.TheVariants as kind
-use Rattle.script_words.specs.Kinds.{value_word, read_word, begins_with_letter}
-use Rattle.script_printing.specs.Bytes.{bytes_word, optional_bytes}
-use Rattle.script_printing.specs.Messages.{optional_words, flag_words}
+use Rattle.script.specs.declared.vocabulary.kind.Kind.{Kind}
+use Rattle.script.specs.declared.vocabulary.kind.Kind.TheVariants as kind
+use Rattle.script.specs.vocabulary.Kinds.{value_word, read_word, begins_with_letter}
+use Rattle.script.specs.printing.Bytes.{bytes_word, optional_bytes}
+use Rattle.script.specs.printing.Messages.{optional_words, flag_words}
 use Rattle.script.specs.Bytes.{bytes_at, optional_bytes_at}
 use Rattle.script.specs.Items.{numbers_at}
 use Rattle.script.specs.declared.fault.Expected.{Expected}

@@ -23,12 +23,12 @@ use Rattle.ipc_model.specs.declared.message.RightKind.{RightKind}
 use Rattle.ipc_model.specs.declared.message.RightKind.TheVariants as kind_of
 use Rattle.ipc_model.specs.encodings.PlainCalls.{number_of_reply, FitsReply}
 use Rattle.words.specs.Words.{AreBytes}
-use Rattle.script_words.specs.declared.kind.Kind.{Kind}
-use Rattle.script_words.specs.declared.kind.Kind.TheVariants.{Hexadecimal, Decimal}
-use Rattle.script_words.specs.Codes.{code_word}
-use Rattle.script_words.specs.Kinds.{read_word, value_word}
-use Rattle.script_printing.specs.Messages.{message_words, optional_words}
-use Rattle.script_printing.specs.Replies.{yes_or_no, kind_word, count_words, status_words, names_words, members_words, outcome_words, received_words, message_reply_words, result_words, plain_reply_words, reply_words}
+use Rattle.script.specs.declared.vocabulary.kind.Kind.{Kind}
+use Rattle.script.specs.declared.vocabulary.kind.Kind.TheVariants.{Hexadecimal, Decimal}
+use Rattle.script.specs.vocabulary.Codes.{code_word}
+use Rattle.script.specs.vocabulary.Kinds.{read_word, value_word}
+use Rattle.script.specs.printing.Messages.{message_words, optional_words}
+use Rattle.script.specs.printing.Replies.{yes_or_no, kind_word, count_words, status_words, names_words, members_words, outcome_words, received_words, message_reply_words, result_words, plain_reply_words, reply_words}
 use Rattle.script.specs.declared.fault.Expected.TheVariants.{Results}
 use Rattle.script.specs.Reading.{Reading, stop, label_at, optional_at, last}
 use Rattle.script.specs.Replies.{yes_or_no_at, answer_at, kind_at, counts_at, status_at, in_front_of, names_at, members_at, received_at, message_reply_at, last_value, extracted_at, space_created_at, last_status_at, results_at, has_results, silence, refusal_at, plain_reply_at, own_reply_at, made_at, numbered_reply_at, reply_at, IsOfCall, IsOwn, IsPlainOwn}

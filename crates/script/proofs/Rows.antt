@@ -1,8 +1,8 @@
 -- Lists that are read one element after another.
 use Rattle.std.proofs.Common.{◌≡◌, ℕ, suc, ◌<◌, List, [], ◌∷◌, ◌++◌, length, refl, sym, ap, ◌∙◌, arith, Option, Some, None, Ok, Err, append_assoc, append-nil}
 use Rattle.ipc_model.specs.declared.plain_reply.NamedType.{NamedType}
-use Rattle.script_words.specs.declared.kind.Kind.TheVariants.{Hexadecimal}
-use Rattle.script_words.specs.Kinds.{read_word}
+use Rattle.script.specs.declared.vocabulary.kind.Kind.TheVariants.{Hexadecimal}
+use Rattle.script.specs.vocabulary.Kinds.{read_word}
 use Rattle.script.specs.declared.fault.Fault.{Fault}
 use Rattle.script.specs.declared.fault.Fault.TheVariants as fault
 use Rattle.script.specs.declared.fault.Expected.TheVariants.{Number}

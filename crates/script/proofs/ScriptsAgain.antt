@@ -7,12 +7,12 @@ use Rattle.std.proofs.lemmas.Bool.{and_parts}
 use Rattle.std.proofs.lemmas.Bool.Decides.{nat_tests}
 use Rattle.std.proofs.lemmas.List.{append-nil}
 use Rattle.std.proofs.lemmas.List.Elements.{All-head, All-tail}
-use Rattle.script_words.specs.Spaced.{is_word_byte, in_front, spaced, line_of}
-use Rattle.script_words.proofs.WordsOf.{are_word_bytes, is_word, are_words}
-use Rattle.script_printing.specs.declared.line.Exchange.{Exchange}
-use Rattle.script_printing.specs.Calls.{call_words}
-use Rattle.script_printing.specs.Lines.{exchange_line, exchange_words}
-use Rattle.script_printing.specs.Replies.{reply_words}
+use Rattle.script.specs.vocabulary.Spaced.{is_word_byte, in_front, spaced, line_of}
+use Rattle.script.proofs.vocabulary.WordsOf.{are_word_bytes, is_word, are_words}
+use Rattle.script.specs.declared.printing.line.Exchange.{Exchange}
+use Rattle.script.specs.printing.Calls.{call_words}
+use Rattle.script.specs.printing.Lines.{exchange_line, exchange_words}
+use Rattle.script.specs.printing.Replies.{reply_words}
 use Rattle.script.specs.declared.fault.LineFault.{LineFault}
 use Rattle.script.specs.declared.fault.LineFault.TheVariants as line_fault
 use Rattle.script.specs.declared.fault.ScriptFault.{ScriptFault}

@@ -13,11 +13,11 @@ use Rattle.hex.proofs.HexLemmas.{decode_of-encode_lower}
 use Rattle.hex.specs.Hex.{encode_lower, decode_of}
 use Rattle.hex.proofs.OnLiterals.{hex_on_literals}
 use Rattle.words.specs.Words.{AreBytes}
-use Rattle.script_words.specs.declared.kind.Kind.{Kind}
-use Rattle.script_words.specs.declared.kind.Kind.TheVariants as kind
-use Rattle.script_words.specs.Kinds.{name_of, value_word, all_named, is_name, begins_with_letter, read_word}
-use Rattle.script_words.specs.Numbers.{hexadecimal, signed, number_of_word}
-use Rattle.script_printing.specs.Bytes.{bytes_word}
+use Rattle.script.specs.declared.vocabulary.kind.Kind.{Kind}
+use Rattle.script.specs.declared.vocabulary.kind.Kind.TheVariants as kind
+use Rattle.script.specs.vocabulary.Kinds.{name_of, value_word, all_named, is_name, begins_with_letter, read_word}
+use Rattle.script.specs.vocabulary.Numbers.{hexadecimal, signed, number_of_word}
+use Rattle.script.specs.printing.Bytes.{bytes_word}
 use Rattle.script.specs.Bytes.{read_bytes}
 use Rattle.script.proofs.NumbersAgain.{decimal_again, hexadecimal_again, signed_again, decimal_fits}
 

@@ -7,10 +7,10 @@ use Rattle.ipc_model.specs.declared.plain_call.PlainCall.{PlainCall}
 use Rattle.ipc_model.specs.declared.plain_call.PlainCall.TheVariants as call
 use Rattle.ipc_model.specs.encodings.PlainCalls.{FitsCall}
 use Rattle.words.specs.Words.{AreBytes}
-use Rattle.script_words.specs.declared.kind.Kind.TheVariants.{Hexadecimal, Decimal}
-use Rattle.script_words.specs.declared.verb.Verb.{Verb}
-use Rattle.script_words.specs.declared.verb.Verb.TheVariants as verb
-use Rattle.script_words.specs.Verbs.{verb_word, all_verbs}
+use Rattle.script.specs.declared.vocabulary.kind.Kind.TheVariants.{Hexadecimal, Decimal}
+use Rattle.script.specs.declared.vocabulary.verb.Verb.{Verb}
+use Rattle.script.specs.declared.vocabulary.verb.Verb.TheVariants as verb
+use Rattle.script.specs.vocabulary.Verbs.{verb_word, all_verbs}
 use Rattle.script.specs.Messages.{message_at}
 use Rattle.script.specs.Plain.{plain_at}
 use Rattle.script.specs.declared.fault.Expected.TheVariants as expected

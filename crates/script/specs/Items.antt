@@ -2,9 +2,9 @@
 use Rattle.std.specs.Prelude.{ℕ, zero, suc, nat_lt, List, [], ◌∷◌, ◌++◌, length, flat_map, None, Some, Ok, codes, false, if◌then◌else◌}
 use Rattle.ipc_model.specs.messages.Items.{Item, item_encoding}
 use Rattle.words.specs.Words.{word}
-use Rattle.script_words.specs.declared.kind.Kind.TheVariants.{Hexadecimal, Element}
-use Rattle.script_words.specs.Kinds.{read_word}
-use Rattle.script_words.specs.Items.{zeros}
+use Rattle.script.specs.declared.vocabulary.kind.Kind.TheVariants.{Hexadecimal, Element}
+use Rattle.script.specs.vocabulary.Kinds.{read_word}
+use Rattle.script.specs.vocabulary.Items.{zeros}
 use Rattle.script.specs.declared.fault.Expected.TheVariants as expected
 use Rattle.script.specs.Bytes.{bytes_at, optional_bytes_at}
 use Rattle.script.specs.Reading.{Reading, ◌>>=◌, stop, label_at, bounded_at}

@@ -7,3 +7,5 @@ pub mod Plain
 pub mod Reading
 pub mod Replies
 pub mod Scripts
+pub mod vocabulary
+pub mod printing

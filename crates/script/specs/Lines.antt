@@ -2,8 +2,8 @@
 use Rattle.std.specs.Prelude.{◌≡◌, ℕ, ◌-◌, List, [], ◌∷◌, length, Option, None, Some, Result, Ok, Err}
 use Rattle.ipc_model.specs.encodings.Encodings.{FitsReply}
 use Rattle.ipc_model.specs.declared.call.Call.{Call}
-use Rattle.script_words.specs.Spaced.{words_of, column_of}
-use Rattle.script_printing.specs.declared.line.Exchange.{Exchange}
+use Rattle.script.specs.vocabulary.Spaced.{words_of, column_of}
+use Rattle.script.specs.declared.printing.line.Exchange.{Exchange}
 use Rattle.script.specs.declared.fault.Expected.TheVariants.{End}
 use Rattle.script.specs.declared.fault.Fault.{Fault}
 use Rattle.script.specs.declared.fault.Fault.TheVariants as fault

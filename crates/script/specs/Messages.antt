@@ -1,8 +1,8 @@
 -- Reading messages.
 use Rattle.std.specs.Prelude.{ℕ, ◌+◌, ◌*◌, Bool, List, ◌++◌, None, Some, Ok, codes, if◌then◌else◌}
 use Rattle.words.specs.Words.{word}
-use Rattle.script_words.specs.declared.kind.Kind.TheVariants.{Hexadecimal, Decimal, Disposition}
-use Rattle.script_words.specs.declared.header.Header.{Header}
+use Rattle.script.specs.declared.vocabulary.kind.Kind.TheVariants.{Hexadecimal, Decimal, Disposition}
+use Rattle.script.specs.declared.vocabulary.header.Header.{Header}
 use Rattle.script.specs.declared.message.Rights.{Rights}
 use Rattle.script.specs.Bytes.{bytes_at}
 use Rattle.script.specs.Items.{body_at}

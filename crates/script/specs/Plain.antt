@@ -2,10 +2,10 @@
 use Rattle.std.specs.Prelude.{ℕ, List, Option, None, Some, Ok}
 use Rattle.ipc_model.specs.declared.plain_call.PlainCall.{PlainCall}
 use Rattle.ipc_model.specs.declared.plain_call.PlainCall.TheVariants as call
-use Rattle.script_words.specs.declared.kind.Kind.{Kind}
-use Rattle.script_words.specs.declared.kind.Kind.TheVariants.{Hexadecimal, Decimal, Signed, Right, Disposition, Notification, Absent}
-use Rattle.script_words.specs.declared.verb.Verb.{Verb}
-use Rattle.script_words.specs.declared.verb.Verb.TheVariants as verb
+use Rattle.script.specs.declared.vocabulary.kind.Kind.{Kind}
+use Rattle.script.specs.declared.vocabulary.kind.Kind.TheVariants.{Hexadecimal, Decimal, Signed, Right, Disposition, Notification, Absent}
+use Rattle.script.specs.declared.vocabulary.verb.Verb.{Verb}
+use Rattle.script.specs.declared.vocabulary.verb.Verb.TheVariants as verb
 use Rattle.script.specs.declared.plain.Arguments.{Arguments}
 use Rattle.script.specs.declared.plain.Kinds.{Kinds}
 use Rattle.script.specs.declared.fault.Expected.TheVariants.{CallName}

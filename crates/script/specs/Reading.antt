@@ -1,9 +1,9 @@
 -- Reading words: the value and the words left, or what was expected and at which words.
 use Rattle.std.specs.Prelude.{◌≡◌, ℕ, Bool, true, false, nat_lt, List, [], ◌∷◌, length, Option, None, Some, Result, Ok, Err, if◌then◌else◌}
 use Rattle.std.specs.Str.{bytes_eq}
-use Rattle.script_words.specs.declared.kind.Kind.{Kind}
-use Rattle.script_words.specs.declared.kind.Kind.TheVariants as kind
-use Rattle.script_words.specs.Kinds.{read_word}
+use Rattle.script.specs.declared.vocabulary.kind.Kind.{Kind}
+use Rattle.script.specs.declared.vocabulary.kind.Kind.TheVariants as kind
+use Rattle.script.specs.vocabulary.Kinds.{read_word}
 use Rattle.script.specs.declared.fault.Expected.{Expected}
 use Rattle.script.specs.declared.fault.Expected.TheVariants.{Number, Label, End}
 use Rattle.script.specs.declared.fault.Fault.{Fault}

@@ -17,9 +17,9 @@ use Rattle.ipc_model.specs.calls.PlainStep.{number_of_call}
 use Rattle.ipc_model.specs.encodings.PlainCalls.{number_of_reply}
 use Rattle.ipc_model.specs.declared.message.RightKind.{RightKind}
 use Rattle.ipc_model.specs.declared.message.RightKind.TheVariants as right
-use Rattle.script_words.specs.declared.kind.Kind.{Kind}
-use Rattle.script_words.specs.declared.kind.Kind.TheVariants.{Hexadecimal, Decimal}
-use Rattle.script_words.specs.Codes.{code_word}
+use Rattle.script.specs.declared.vocabulary.kind.Kind.{Kind}
+use Rattle.script.specs.declared.vocabulary.kind.Kind.TheVariants.{Hexadecimal, Decimal}
+use Rattle.script.specs.vocabulary.Codes.{code_word}
 use Rattle.script.specs.Messages.{message_at}
 use Rattle.script.specs.declared.fault.Expected.TheVariants as expected
 use Rattle.script.specs.Reading.{Reading, ◌>>=◌, stop, wanted, value_at, label_at, labelled_at, optional_at, last}

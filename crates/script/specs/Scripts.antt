@@ -1,8 +1,8 @@
 -- Scripts: lines, one after another.
 use Rattle.std.specs.Prelude.{◌≡◌, ℕ, ◌+◌, Bool, not, ◌==◌, List, [], ◌∷◌, ◌++◌, All, flat_map, Option, None, Some, Result, Ok, Err, if◌then◌else◌}
-use Rattle.script_words.specs.Spaced.{in_front}
-use Rattle.script_printing.specs.declared.line.Exchange.{Exchange}
-use Rattle.script_printing.specs.Lines.{exchange_line}
+use Rattle.script.specs.vocabulary.Spaced.{in_front}
+use Rattle.script.specs.declared.printing.line.Exchange.{Exchange}
+use Rattle.script.specs.printing.Lines.{exchange_line}
 use Rattle.script.specs.declared.fault.LineFault.{LineFault}
 use Rattle.script.specs.declared.fault.LineFault.TheVariants as line_fault
 use Rattle.script.specs.declared.fault.ScriptFault.{ScriptFault}

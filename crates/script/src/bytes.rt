@@ -1,11 +1,11 @@
-ghost use Rattle.script_words.specs.Spaced.{words_of};
+ghost use Rattle.script.specs.vocabulary.Spaced.{words_of};
 ghost use Rattle.script.specs.Bytes.{bytes_at, optional_bytes_at};
 ghost use Rattle.script.specs.Reading.{Gives};
 
 use crate::fault::{Expected, Fault};
 use crate::values::after_label;
+use crate::vocabulary::take_word;
 use hex::FromHexError;
-use script_words::take_word;
 use std::alloc::Global;
 
 /// Reads bytes, as two hexadecimal digits each or `none`, and returns the text after them.

@@ -1,4 +1,4 @@
-ghost use Rattle.script_words.specs.Spaced.{words_of};
+ghost use Rattle.script.specs.vocabulary.Spaced.{words_of};
 ghost use Rattle.script.specs.Calls.{after_at, call_at, numbered_at, own_call_at, plain_call_at, receive_at, send_at};
 ghost use Rattle.script.specs.Reading.{Gives};
 
@@ -6,8 +6,8 @@ use crate::fault::{Expected, Fault};
 use crate::message::read_message;
 use crate::plain::read_plain;
 use crate::values::{after_label, read_flag, read_labelled, read_value};
+use crate::vocabulary::{Kind, Verb, large_word, take_word};
 use ipc_model::{Call, NumberedCall, PlainCall, Sequence};
-use script_words::{Kind, Verb, large_word, take_word};
 use std::alloc::Global;
 
 /// Reads the arguments of a receive.

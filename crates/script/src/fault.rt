@@ -1,8 +1,8 @@
 ghost use Rattle.std.specs.Prelude.{◌≡◌};
-ghost use Rattle.script_words.specs.Spaced.{words_of};
+ghost use Rattle.script.specs.vocabulary.Spaced.{words_of};
 ghost use Rattle.script.specs.Reading.{stop_at};
 
-use script_words::count_words;
+use crate::vocabulary::count_words;
 use std::error::Error;
 use std::fmt;
 

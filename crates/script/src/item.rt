@@ -1,6 +1,6 @@
 ghost use Rattle.std.specs.Prelude.{◌≡◌, ◌<◌, ◌++◌, length, flat_map, Ok, OnOk, IfOk};
 ghost use Rattle.ipc_model.specs.messages.Items.{item_encoding};
-ghost use Rattle.script_words.specs.Spaced.{words_of};
+ghost use Rattle.script.specs.vocabulary.Spaced.{words_of};
 ghost use Rattle.script.specs.Bytes.{optional_bytes_at};
 ghost use Rattle.script.specs.Items.{words_item, bytes_item, numbers_at, words_item_at, bytes_item_at, item_at, after_bytes, body_at};
 ghost use Rattle.script.specs.Reading.{Gives};
@@ -10,7 +10,7 @@ ghost use Rattle.words.specs.Words.{word};
 use crate::bytes::{read_bytes, read_optional_bytes};
 use crate::fault::{Expected, Fault};
 use crate::values::{after_label, read_bounded, take_number};
-use script_words::{BYTE_BITS, BYTE_TYPE, Kind, WORD_BITS, count_words, descriptor, zeros};
+use crate::vocabulary::{BYTE_BITS, BYTE_TYPE, Kind, WORD_BITS, count_words, descriptor, zeros};
 use std::alloc::{AllocError, Global};
 use words::push_word;
 

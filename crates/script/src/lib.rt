@@ -1,4 +1,4 @@
-//! Reads lines and scripts as calls and their replies, in the words of Mach's headers.
+//! Lines and scripts of calls and their replies, in the words of Mach's headers: read and printed.
 #![tactic(auto)]
 
 mod bytes;
@@ -8,11 +8,13 @@ mod item;
 mod line;
 mod message;
 mod plain;
+mod printing;
 mod reply;
 mod text;
 mod values;
+mod vocabulary;
 
 pub use fault::{Expected, LineFault, ScriptFault};
 pub use line::{read_line, read_request_line};
-pub use script_printing::Exchange;
+pub use printing::{Exchange, push_call, push_exchange, push_reply};
 pub use text::{Line, read_script};

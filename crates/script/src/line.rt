@@ -1,19 +1,19 @@
 ghost use Rattle.std.specs.Prelude.{◌≡◌, [], None, Some};
 ghost use Rattle.ipc_model.specs.declared.call.Call.{Call};
-ghost use Rattle.script_words.specs.Spaced.{words_of};
-ghost use Rattle.script_printing.specs.declared.line.Exchange.{Exchange};
-ghost use Rattle.script_printing.specs.Calls.{call_words, call_line};
-ghost use Rattle.script_printing.specs.Lines.{exchange_words, exchange_line};
+ghost use Rattle.script.specs.vocabulary.Spaced.{words_of};
+ghost use Rattle.script.specs.declared.printing.line.Exchange.{Exchange};
+ghost use Rattle.script.specs.printing.Calls.{call_words, call_line};
+ghost use Rattle.script.specs.printing.Lines.{exchange_words, exchange_line};
 ghost use Rattle.script.specs.Calls.{HasLine};
 ghost use Rattle.script.specs.Lines.{exchange_at, request_at, fault_of, line_read, request_read, IsExchange, IsRead, UnlessMemory};
 ghost use Rattle.script.specs.Reading.{Gives};
 
 use crate::call::read_call;
 use crate::fault::{Expected, Fault, LineFault};
+use crate::printing::Exchange;
 use crate::reply::read_reply;
+use crate::vocabulary::{column_of, count_words, take_word};
 use ipc_model::Call;
-use script_printing::Exchange;
-use script_words::{column_of, count_words, take_word};
 use std::alloc::Global;
 
 /// Returns the fault of a line.

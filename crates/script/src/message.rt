@@ -1,5 +1,5 @@
 ghost use Rattle.std.specs.Prelude.{◌≡◌, ◌<◌, IfOk};
-ghost use Rattle.script_words.specs.Spaced.{words_of};
+ghost use Rattle.script.specs.vocabulary.Spaced.{words_of};
 ghost use Rattle.script.specs.Messages.{header_encoding, further_at, rights_at, local_at, bits_of, message_at, header_at};
 ghost use Rattle.script.specs.Reading.{Gives};
 
@@ -9,7 +9,7 @@ use crate::item::read_body;
 use crate::values::{
     after_label, read_bounded, read_flag, read_labelled, read_optional, read_value,
 };
-use script_words::{Header, Kind};
+use crate::vocabulary::{Header, Kind};
 use std::alloc::{AllocError, Global};
 use words::push_word;
 

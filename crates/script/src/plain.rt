@@ -1,12 +1,12 @@
 ghost use Rattle.std.specs.Prelude.{◌≡◌};
-ghost use Rattle.script_words.specs.Spaced.{words_of};
+ghost use Rattle.script.specs.vocabulary.Spaced.{words_of};
 ghost use Rattle.script.specs.Plain.{three_kinds, kinds_of, short_call, pair_call, long_call, plain_call, arguments_at, plain_at};
 ghost use Rattle.script.specs.Reading.{Gives};
 
 use crate::fault::{Expected, Fault};
 use crate::values::read_value;
+use crate::vocabulary::{Kind, Verb};
 use ipc_model::PlainCall;
-use script_words::{Kind, Verb};
 
 /// The kinds of a call's arguments, with `Absent` after the last.
 #[derive(Clone, Copy)]

@@ -1,12 +1,13 @@
 ghost use Rattle.std.specs.Prelude.{◌≡◌, ◌||◌, ◌==◌};
 ghost use Rattle.std.specs.Option.{option_map};
-ghost use Rattle.script_words.specs.Spaced.{words_of};
+ghost use Rattle.script.specs.vocabulary.Spaced.{words_of};
 ghost use Rattle.script.specs.Reading.{Gives, last};
 ghost use Rattle.script.specs.Replies.{yes_or_no_at, answer_at, kind_at, counts_at, status_at, named_at, member_at, names_at, members_at, received_at, message_reply_at, extracted_at, space_created_at, last_value, last_status_at, results_at, has_results, silence, refusal_at, plain_reply_at, own_reply_at, made_at, numbered_reply_at, reply_at};
 
 use crate::fault::{Expected, Fault};
 use crate::message::read_message;
 use crate::values::{after_label, read_labelled, read_optional, read_value};
+use crate::vocabulary::{Kind, code_of_word, take_word};
 use codes::{
     KernReturn, MACH_MSG, MACH_PORT_ALLOCATE, MACH_PORT_EXTRACT_RIGHT,
     MACH_PORT_GET_RECEIVE_STATUS, MACH_PORT_GET_REFS, MACH_PORT_GET_SET_STATUS, MACH_PORT_NAMES,
@@ -15,7 +16,6 @@ use codes::{
 use ipc_model::{
     Call, NamedType, NumberedReply, PlainReply, ReceiveStatus, Reply, RightKind, Sequence,
 };
-use script_words::{Kind, code_of_word, take_word};
 use std::alloc::Global;
 
 /// Returns the value, if no word is left.

@@ -1,12 +1,12 @@
 ghost use Rattle.std.specs.Prelude.{◌≡◌, List, take, drop, MatchResult};
 ghost use Rattle.std.specs.List.{prefix_len};
-ghost use Rattle.script_printing.specs.declared.line.Exchange.{Exchange};
+ghost use Rattle.script.specs.declared.printing.line.Exchange.{Exchange};
 ghost use Rattle.script.specs.Lines.{line_read};
 ghost use Rattle.script.specs.Scripts.{in_line, script_text, numbered, script_read, Adds, IsFault, AreExchanges};
 
 use crate::fault::{LineFault, ScriptFault};
 use crate::line::read_line;
-use script_printing::Exchange;
+use crate::printing::Exchange;
 use std::alloc::Global;
 
 /// A line of a script with a call.

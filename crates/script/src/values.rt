@@ -1,9 +1,9 @@
 ghost use Rattle.std.specs.Prelude.{◌≡◌, ◌<◌, MatchOption, None, Some, IfOk};
-ghost use Rattle.script_words.specs.Spaced.{words_of};
+ghost use Rattle.script.specs.vocabulary.Spaced.{words_of};
 ghost use Rattle.script.specs.Reading.{Gives, number_at, bounded_at, value_at, label_at, labelled_at, optional_at, flag_at};
 
 use crate::fault::{Expected, Fault};
-use script_words::{Kind, take_word};
+use crate::vocabulary::{Kind, take_word};
 
 /// Reads a number, if there is one, and returns the text after it.
 #[tactic(auto, unfolding(crate::specs::Reading::number_at))]

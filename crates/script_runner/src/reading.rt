@@ -8,7 +8,7 @@ use calls::{push_call, push_reply};
 use codes::MAX_FRAME_CONTENT;
 use ipc_model::{Call, PlainReply, Reply};
 use script::{Exchange, LineFault, read_line, read_request_line};
-use shell::push_attempt;
+use relay::push_attempt;
 use std::alloc::{AllocError, AllocFailed, Global};
 use std::fmt;
 use words::push_word;

@@ -3,7 +3,7 @@ use crate::reading::ReadFault;
 use crate::row::{Script, ScriptStep};
 use calls::read_reply;
 use ipc_model::{Call, Reply};
-use script_printing::{push_call, push_reply};
+use script::{push_call, push_reply};
 use std::alloc::{AllocError, Global};
 use std::{io, str};
 

@@ -3,11 +3,14 @@
 #![tactic(auto)]
 
 mod clearing;
+mod epoch_log;
+mod phases;
 mod receipt;
 mod store_half;
 mod under_way;
 
-pub use epoch_log::Taken;
+pub use epoch_log::{EpochLog, Taken};
+pub use phases::{Kernel, Opened, Recorder, open};
 pub use receipt::{Finished, Receipt};
 pub use store_half::StoreHalf;
 pub use under_way::Cut;

@@ -1,7 +1,7 @@
 ghost use Rattle.std.specs.Prelude.{◌≡◌};
 ghost use Rattle.journal.specs.Batch.{empty_batch};
 
-use epoch_log::Taken;
+use crate::epoch_log::Taken;
 use journal::Batch;
 use std::marker::Model;
 

@@ -8,11 +8,11 @@ ghost use Rattle.store_half.specs.Counting.{counted, counted_fault};
 ghost use Rattle.store_half.specs.Values.{begun};
 
 use crate::clearing::clear_segment;
+use crate::epoch_log::Taken;
 use crate::receipt::{Finished, Receipt};
 use crate::under_way::{Checkpoint, Cut, Making};
 use checkpoint::Image;
 use disk::Disk;
-use epoch_log::Taken;
 use journal::{Segment, roll_close, roll_head, roll_open};
 use std::alloc::Global;
 use std::marker::Model;

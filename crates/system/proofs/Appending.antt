@@ -3,7 +3,7 @@ use Rattle.std.proofs.Common.{◌≡◌, ◌⊎◌, inl, inr, ℕ, ◌+◌, ◌�
 use Rattle.codes.specs.declared.limits.TheConstants.{MAX_RECORDS}
 use Rattle.disk.specs.Moments.{View, Follows, IsSynced}
 use Rattle.disk.specs.Slots.{Slots}
-use Rattle.epoch_log.specs.Logs.{TakenValue}
+use Rattle.store_half.specs.epoch_log.Logs.{TakenValue}
 use Rattle.ipc_laws.specs.RunLaws.{run_split}
 use Rattle.ipc_model.specs.calls.Step.{Run}
 use Rattle.ipc_model.specs.declared.record.Record.{Record}
@@ -14,10 +14,10 @@ use Rattle.ipc_model.specs.world.World as world
 use Rattle.ipc_model.specs.world.World.{World, CanAppend, IsSegmentOpen, after_append, of_append, acknowledged}
 use Rattle.journal.specs.Batch.{Holds, content_of}
 use Rattle.journal.specs.declared.segment.Segment.{Segment}
-use Rattle.checkpoint_phases.specs.Batches.{IsReadyBatch, with_more}
-use Rattle.checkpoint_phases.specs.Phases.{Keeps}
-use Rattle.checkpoint_phases.proofs.Appends.{append_keeps, append_mid, kept_synced}
-use Rattle.checkpoint_phases.proofs.Passed.{run_join}
+use Rattle.store_half.specs.phases.Batches.{IsReadyBatch, with_more}
+use Rattle.store_half.specs.phases.Phases.{Keeps}
+use Rattle.store_half.proofs.phases.Appends.{append_keeps, append_mid, kept_synced}
+use Rattle.store_half.proofs.phases.Passed.{run_join}
 use Rattle.disk.proofs.Moments.{passes_as}
 use Rattle.slot_steps.specs.Steps.{segment_slot}
 use Rattle.store_half.specs.Values.{CheckpointValue, StoreValue}

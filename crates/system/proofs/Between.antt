@@ -1,7 +1,7 @@
 -- What is between the halves.
 use Rattle.std.proofs.Common.{◌≡◌, ◌⊎◌, inl, inr, ℕ, ◌+◌, ◌≤◌, ◌<◌, Bool, true, false, [], ◌∷◌, ◌++◌, Option, None, Some, refl, sym, subst, arith}
 use Rattle.std.specs.Prelude.{is_none}
-use Rattle.epoch_log.specs.Logs.{TakenValue}
+use Rattle.store_half.specs.epoch_log.Logs.{TakenValue}
 use Rattle.ipc_model.specs.world.World as world
 use Rattle.ipc_model.specs.world.World.{of_append, of_finish}
 use Rattle.system.specs.Core.{BatchBetween, Between, NothingBetween, ReceiptBetween, in_turn}

@@ -6,7 +6,7 @@ use Rattle.std.specs.FinMap as finmap
 use Rattle.std.proofs.lemmas.List.{append-nil}
 use Rattle.codes.specs.declared.limits.TheConstants.{MAX_RECORDS}
 use Rattle.disk.specs.Moments.{View, IsSynced}
-use Rattle.epoch_log.specs.Logs.{EpochLogValue, TakenValue, entry_of, with_record}
+use Rattle.store_half.specs.epoch_log.Logs.{EpochLogValue, TakenValue, entry_of, with_record}
 use Rattle.ipc_laws.specs.MapLaws.{get-here}
 use Rattle.ipc_model.specs.calls.Step.{Step, has_record}
 use Rattle.ipc_model.specs.declared.call.Call.{Call}
@@ -19,7 +19,7 @@ use Rattle.journal.specs.declared.segment.Segment.{Segment}
 use Rattle.slot_steps.specs.Steps.{segment_slot}
 use Rattle.store_fault.specs.declared.fault.StoreFault.{StoreFault}
 use Rattle.store_fault.specs.declared.fault.StoreFault.TheVariants.{Device, Failed, Full}
-use Rattle.checkpoint_phases.specs.Passed.{unrecorded_step}
+use Rattle.store_half.specs.phases.Passed.{unrecorded_step}
 use Rattle.system.specs.Calling.{Calls, CallFails, FailsToStoreAll, IsAlone, IsResting, IsStored, StoresAll}
 use Rattle.store_half.specs.Changes.{IsAppended, PassesAppend}
 use Rattle.store_half.specs.Values.{StoreValue}

@@ -2,7 +2,7 @@
 use Rattle.std.proofs.Common.{◌≡◌, inl, inr, ℕ, ◌+◌, ◌-◌, ◌≤◌, ◌<◌, Bool, true, false, List, [], ◌∷◌, ◌++◌, length, take, drop, Option, None, Some, refl, sym, ap, subst, ◌∙◌, arith}
 use Rattle.std.specs.Prelude.{max, is_none}
 use Rattle.disk.specs.Moments.{View, Passes}
-use Rattle.epoch_log.specs.Logs.{next_log}
+use Rattle.store_half.specs.epoch_log.Logs.{next_log}
 use Rattle.ipc_laws.specs.RunLaws.{steps_run}
 use Rattle.ipc_laws.specs.RunsKeep.{one_run}
 use Rattle.ipc_model.specs.calls.Step.{Run}
@@ -14,10 +14,10 @@ use Rattle.ipc_model.specs.world.World as world
 use Rattle.ipc_model.specs.world.World.{World, After, after_cut, of_finish, one_imaged, one_rolled, pieces_of, acknowledged}
 use Rattle.journal.specs.Batch.{Holds}
 use Rattle.journal.specs.declared.segment.Segment.{Segment}
-use Rattle.checkpoint_phases.specs.Phases.{Keeps}
-use Rattle.checkpoint_phases.proofs.Appends.{begin_keeps}
-use Rattle.checkpoint_phases.proofs.Images.{finish_fails, finish_keeps, finish_passes, image_close_fails, image_close_keeps, image_close_passes, piece_fails, piece_keeps, piece_passes}
-use Rattle.checkpoint_phases.proofs.Rolls.{roll_close_fails, roll_close_keeps, roll_close_passes, roll_head_fails, roll_head_keeps, roll_head_passes, roll_open_fails, roll_open_keeps, roll_open_passes}
+use Rattle.store_half.specs.phases.Phases.{Keeps}
+use Rattle.store_half.proofs.phases.Appends.{begin_keeps}
+use Rattle.store_half.proofs.phases.Images.{finish_fails, finish_keeps, finish_passes, image_close_fails, image_close_keeps, image_close_passes, piece_fails, piece_keeps, piece_passes}
+use Rattle.store_half.proofs.phases.Rolls.{roll_close_fails, roll_close_keeps, roll_close_passes, roll_head_fails, roll_head_keeps, roll_head_passes, roll_open_fails, roll_open_keeps, roll_open_passes}
 use Rattle.disk.proofs.Moments.{passes_as}
 use Rattle.store_layout.specs.Gates.{StandForState}
 use Rattle.store_half.specs.Changes.{CanFinish, CanOpen, ClosesImage, FailsToCloseImage, FailsToFinish, FailsToRollClose, FailsToRollHead, FailsToRollOpen, FailsToWritePiece, HasImaged, HasPieceLeft, IsNotNow, IsRolled, RollsClose, RollsHead, RollsOpen, WritesPiece}

@@ -1,8 +1,8 @@
 -- Any number of crashes in a row, after a crash within the events of a core.
 use Rattle.std.proofs.Common.{ℕ}
 use Rattle.disk.specs.Moments.{View, MayLeave}
-use Rattle.checkpoint_phases.proofs.Passed.{all_crashes, same_stands}
-use Rattle.checkpoint_phases.specs.Passed.{CrashesKeep}
+use Rattle.store_half.proofs.phases.Passed.{all_crashes, same_stands}
+use Rattle.store_half.specs.phases.Passed.{CrashesKeep}
 use Rattle.ipc_model.specs.state.State.{State}
 use Rattle.ipc_model.specs.world.World.{World}
 use Rattle.system.specs.Core.{Stands, StandsFrom}

@@ -7,10 +7,10 @@ use Rattle.journal.specs.Batch.{empty_batch}
 use Rattle.store_fault.specs.declared.fault.StoreFault.{StoreFault}
 use Rattle.store_fault.specs.declared.fault.StoreFault.TheVariants.{Device, NoMemory}
 use Rattle.journal.specs.declared.segment.Segment.{Segment}
-use Rattle.checkpoint_phases.specs.Phases.{Keeps}
-use Rattle.checkpoint_phases.proofs.Appends.{begin_keeps}
-use Rattle.checkpoint_phases.proofs.Images.{finish_fails, finish_keeps, finish_passes, image_close_fails, image_close_keeps, image_close_passes, piece_fails, piece_keeps, piece_passes}
-use Rattle.checkpoint_phases.proofs.Rolls.{roll_close_fails, roll_close_keeps, roll_close_passes, roll_head_fails, roll_head_keeps, roll_head_passes, roll_open_fails, roll_open_keeps, roll_open_passes}
+use Rattle.store_half.specs.phases.Phases.{Keeps}
+use Rattle.store_half.proofs.phases.Appends.{begin_keeps}
+use Rattle.store_half.proofs.phases.Images.{finish_fails, finish_keeps, finish_passes, image_close_fails, image_close_keeps, image_close_passes, piece_fails, piece_keeps, piece_passes}
+use Rattle.store_half.proofs.phases.Rolls.{roll_close_fails, roll_close_keeps, roll_close_passes, roll_head_fails, roll_head_keeps, roll_head_passes, roll_open_fails, roll_open_keeps, roll_open_passes}
 use Rattle.disk.proofs.Moments.{passes_then}
 use Rattle.store_half.specs.Changes.{CanOpen, ClosesImage, FailsToCloseImage, FailsToFinish, FailsToRollClose, FailsToRollHead, FailsToRollOpen, FailsToWritePiece, Finishes, HasImaged, HasPieceLeft, IsFault, IsFaultOrShortage, IsNotNow, IsRolled, RollsClose, RollsHead, RollsOpen, WritesPiece}
 use Rattle.store_half.specs.Values.{CheckpointValue, StoreValue, begun}

@@ -2,7 +2,7 @@
 use Rattle.std.proofs.Common.{◌≡◌, ℕ, zero, suc, ◌+◌, ◌-◌, ◌≤◌, Bool, true, false, List, [], ◌∷◌, ◌++◌, length, take, drop, refl, sym, ap, subst, ◌∙◌, arith, append_assoc, length-append}
 use Rattle.std.specs.Prelude.{max, map, if◌then◌else◌}
 use Rattle.std.proofs.lemmas.List.{append-nil}
-use Rattle.epoch_log.specs.Logs.{EpochLogValue, entry_of, with_record}
+use Rattle.store_half.specs.epoch_log.Logs.{EpochLogValue, entry_of, with_record}
 use Rattle.ipc_laws.specs.RunLaws.{run-push, steps-push}
 use Rattle.ipc_laws.specs.NumberedSteps.{kept_fits}
 use Rattle.ipc_laws.specs.RunsKeep.{FitCalls}
@@ -13,7 +13,7 @@ use Rattle.ipc_model.specs.state.State.{State}
 use Rattle.ipc_model.specs.store.Store.{AreRecords}
 use Rattle.ipc_model.specs.encodings.Encodings.{canonical_record, record_encoding, records_encoding, IsRecord}
 use Rattle.journal.specs.Batch.{BatchValue, Holds, empty_batch, with_encoding}
-use Rattle.checkpoint_phases.specs.Passed.{unrecorded_step}
+use Rattle.store_half.specs.phases.Passed.{unrecorded_step}
 use Rattle.system.specs.Core.{Counts, IsApplied, Wait}
 use Rattle.system.specs.Halves.{Gives, KernelValue, TicketValue}
 use Rattle.system.proofs.Lists.{drop_end, drop_long, drop_more, take_end, take_more}

@@ -5,7 +5,7 @@ use Rattle.std.proofs.Math.Dec.{leb}
 use Rattle.std.proofs.lemmas.List.{take_at}
 use Rattle.std.proofs.lemmas.Bool.Decides.{leb_tells}
 use Rattle.codes.specs.declared.limits.TheConstants.{MAX_RECORDS}
-use Rattle.epoch_log.specs.Logs.{EpochLogValue, entry_of, log_after, with_record}
+use Rattle.store_half.specs.epoch_log.Logs.{EpochLogValue, entry_of, log_after, with_record}
 use Rattle.ipc_model.specs.calls.Step.{has_record}
 use Rattle.ipc_model.specs.declared.call.Call.{Call}
 use Rattle.ipc_model.specs.declared.reply.Reply.{Reply}

@@ -1,2 +1,2 @@
 -- Lemmas on stores that are kept, for the crates above.
-pub use Rattle.checkpoint_phases.proofs.Appends.{append_keeps, append_mid, kept_stands, kept_synced}
+pub use Rattle.store_half.proofs.phases.Appends.{append_keeps, append_mid, kept_stands, kept_synced}

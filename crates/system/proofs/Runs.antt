@@ -8,7 +8,7 @@ use Rattle.ipc_model.specs.state.State.{State}
 use Rattle.ipc_model.specs.declared.reply.Reply.{Reply}
 use Rattle.ipc_model.specs.world.World.{World, After, first_world, acknowledged}
 use Rattle.journal.specs.declared.segment.Segment.{Segment}
-use Rattle.checkpoint_phases.specs.Passed.{IsKept}
+use Rattle.store_half.specs.phases.Passed.{IsKept}
 use Rattle.system.specs.Core.{HasNextNumber, IsNumbered, Runs, RunsThrough, StandsFor, StandsFrom, Steps, SystemValue, first_system}
 use Rattle.system.specs.Events.{event_of, outcome_of}
 use Rattle.system.specs.declared.event.Event.{Event}

@@ -5,7 +5,7 @@ use Rattle.std.proofs.lemmas.Bool.{cases_eq, le-ltb, lt-ltb}
 use Rattle.std.specs.FinMap as finmap
 use Rattle.disk.specs.Moments.{View, MayLeave, Passes}
 use Rattle.disk.specs.Slots.{Slots}
-use Rattle.epoch_log.specs.Logs.{TakenValue}
+use Rattle.store_half.specs.epoch_log.Logs.{TakenValue}
 use Rattle.ipc_laws.specs.MapLaws.{get-here, get-there, get-gone, get-left}
 use Rattle.ipc_model.specs.calls.Step.{Run, has_record}
 use Rattle.ipc_model.specs.declared.call.Call.{Call}
@@ -16,7 +16,7 @@ use Rattle.ipc_model.specs.store.Faults as fault
 use Rattle.ipc_model.specs.world.World as world
 use Rattle.ipc_model.specs.world.World.{World, Ticket, After, after_durable, after_submit, after_take, greatest_seen, of_append, of_finish, record_of, acknowledged, with_answered}
 use Rattle.journal.specs.Batch.{BatchValue, Holds, empty_batch}
-use Rattle.checkpoint_phases.proofs.Appends.{kept_stands}
+use Rattle.store_half.proofs.phases.Appends.{kept_stands}
 use Rattle.disk.proofs.Moments.{left_now, passes_as}
 use Rattle.store_layout.specs.Gates.{StandForState}
 use Rattle.store_half.specs.Values.{CheckpointValue}

@@ -3,7 +3,7 @@ use Rattle.std.specs.Prelude.{◌≡◌, ◌⊎◌, ℕ, ◌+◌, ◌<◌, ◌�
 use Rattle.std.specs.FinMap as finmap
 use Rattle.codes.specs.declared.limits.TheConstants.{MAX_RECORDS}
 use Rattle.disk.specs.Moments.{View, IsSynced}
-use Rattle.epoch_log.specs.Logs.{TakenValue}
+use Rattle.store_half.specs.epoch_log.Logs.{TakenValue}
 use Rattle.ipc_model.specs.declared.call.Call.{Call}
 use Rattle.ipc_model.specs.declared.reply.Reply.{Reply}
 use Rattle.slot_steps.specs.Steps.{segment_slot}

@@ -5,7 +5,7 @@ use Rattle.std.specs.Ordering.{nat_cmp}
 use Rattle.codes.specs.declared.limits.TheConstants.{MAX_RECORDS}
 use Rattle.disk.specs.Moments.{View, MayLeave, Passes}
 use Rattle.disk.specs.Slots.{Slots}
-use Rattle.epoch_log.specs.Logs.{TakenValue}
+use Rattle.store_half.specs.epoch_log.Logs.{TakenValue}
 use Rattle.ipc_model.specs.calls.Step as calls
 use Rattle.ipc_model.specs.calls.Step.{Run}
 use Rattle.ipc_model.specs.declared.record.Record.{Record}
@@ -20,7 +20,7 @@ use Rattle.ipc_model.specs.world.World as world
 use Rattle.ipc_laws.specs.RunsKeep.{FitCalls}
 use Rattle.journal.specs.Batch.{BatchValue, Holds}
 use Rattle.journal.specs.declared.segment.Segment.{Segment}
-use Rattle.checkpoint_phases.specs.Phases.{Keeps}
+use Rattle.store_half.specs.phases.Phases.{Keeps}
 use Rattle.store_layout.specs.Gates.{StandForState}
 use Rattle.store_half.specs.Values.{CheckpointValue, StoreValue}
 use Rattle.system.specs.Events.{event_of, outcome_of}

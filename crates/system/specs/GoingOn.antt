@@ -3,7 +3,7 @@ use Rattle.std.specs.Prelude.{◌≡◌, ◌⊎◌, ℕ, ◌+◌, ◌-◌, ◌^�
 use Rattle.disk.specs.Moments.{View, Passes}
 use Rattle.ipc_model.specs.state.State.{State}
 use Rattle.ipc_model.specs.store.Recovery.{IsImageOf}
-use Rattle.checkpoint_phases.specs.Phases.{Keeps}
+use Rattle.store_half.specs.phases.Phases.{Keeps}
 use Rattle.store_layout.specs.Gates.{StandForState}
 use Rattle.store_half.specs.Changes.{CanFinish, ClosesImage, Finishes, HasImaged, HasPieceLeft, RollsClose, RollsHead, RollsOpen, WritesPiece}
 use Rattle.store_half.specs.Values.{CheckpointValue, CutValue, StoreValue, begun}

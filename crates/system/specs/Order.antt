@@ -1,7 +1,7 @@
 -- What holds of a core at any time.
 use Rattle.std.specs.Prelude.{◌≡◌, ℕ, ◌+◌, ◌<◌, ◌≤◌, Bool, true, false, Option, None, Some}
 use Rattle.std.specs.FinMap as finmap
-use Rattle.epoch_log.specs.Logs.{TakenValue}
+use Rattle.store_half.specs.epoch_log.Logs.{TakenValue}
 use Rattle.store_half.specs.Values.{CheckpointValue}
 use Rattle.system.specs.Core.{SystemValue}
 

@@ -1,7 +1,7 @@
 -- A code of a core's values, by which proofs distinguish them (ghost).
 use Rattle.std.specs.Prelude.{ℕ, Bool, Option, refl}
 use Rattle.std.specs.Coded.{Coded, code_by, coded×, coded_bool, coded_option, coded_ℕ}
-use Rattle.epoch_log.specs.Logs.{TakenValue, taken_code}
+use Rattle.store_half.specs.epoch_log.Logs.{TakenValue, taken_code}
 use Rattle.store_half.specs.Values.{StoreValue, store_code}
 use Rattle.system.specs.Core.{SystemValue, TicketsValue}
 use Rattle.system.specs.Halves.{KernelValue, kernel_code}

@@ -2,7 +2,7 @@
 ghost use Rattle.std.specs.Prelude.{◌≡◌, ◌⊎◌, ◌<◌, false, IfErr, OnOk};
 ghost use Rattle.disk.specs.Moments.{Passes};
 ghost use Rattle.ipc_model.specs.state.State.{State};
-ghost use Rattle.checkpoint_phases.specs.Phases.{Keeps};
+ghost use Rattle.store_half.specs.phases.Phases.{Keeps};
 ghost use Rattle.system.specs.Calling.{IsResting};
 ghost use Rattle.store_fault.specs.declared.fault.StoreFault.{StoreFault};
 ghost use Rattle.store_half.specs.Changes.{HasImaged};

@@ -1,6 +1,6 @@
 ghost use Rattle.std.specs.Prelude.{◌≡◌, ◌+◌, ◌-◌, ◌^◌, ◌<◌, ◌≤◌, true, false, length, MatchBool, IfOk, IfErr, IfSome, IfNone, OnErr, IsErrOf};
 ghost use Rattle.codes.specs.declared.limits.TheConstants.{MAX_FRAME_CONTENT, MAX_RECORDS};
-ghost use Rattle.epoch_log.specs.Logs.{Wrote};
+ghost use Rattle.store_half.specs.epoch_log.Logs.{Wrote};
 ghost use Rattle.ipc_model.specs.calls.Step.{Step, has_record};
 ghost use Rattle.ipc_model.specs.encodings.Encodings.{reply_encoding};
 ghost use Rattle.system.specs.Halves.{CanCut, CannotTake, Cuts, Gives, IsFullFor, TakesBatch, first_half, with_receipt};
@@ -9,9 +9,9 @@ ghost use Rattle.waiting.specs.Waiting.{Wakes};
 
 use crate::Ticket;
 use crate::witness::{Witness, Witnessed};
-use checkpoint_phases::Kernel;
+use store_half::Kernel;
 use codes::MAX_RECORDS;
-use epoch_log::{EpochLog, Taken};
+use store_half::{EpochLog, Taken};
 use image::image_is_of_state;
 use ipc_model::{Call, Reply, call_in_range};
 use journal::Batch;

@@ -1,6 +1,6 @@
 // Laws over the definitions, each the contract of a function that does nothing, so that the check proves it.
 ghost use Rattle.std.specs.Prelude.{ℕ};
-ghost use Rattle.checkpoint_phases.specs.Passed.{CrashesKeep};
+ghost use Rattle.store_half.specs.phases.Passed.{CrashesKeep};
 ghost use Rattle.ipc_model.specs.history.Once.{Once};
 ghost use Rattle.ipc_model.specs.state.State.{State};
 ghost use Rattle.ipc_model.specs.world.World.{World};

@@ -11,8 +11,8 @@ mod system;
 mod ticket;
 mod witness;
 
-pub use checkpoint_phases::{Kernel, Opened, open};
-pub use epoch_log::Taken;
+pub use store_half::{Kernel, Opened, open};
+pub use store_half::Taken;
 pub use event::{Event, Outcome};
 pub use kernel_half::{KernelHalf, SubmitFault};
 pub use laws::{calls_are_made_once, crashes_keep_calls};

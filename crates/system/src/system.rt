@@ -13,9 +13,9 @@ ghost use Rattle.system.specs.Halves.{CannotTake, TicketValue};
 
 use crate::kernel_half::{KernelHalf, SubmitFault};
 use crate::ticket::Tickets;
-use checkpoint_phases::Opened;
+use store_half::Opened;
 use disk::Disk;
-use epoch_log::Taken;
+use store_half::Taken;
 use ipc_model::{Call, Reply};
 use std::alloc::Global;
 use std::marker::Model;

@@ -2,8 +2,8 @@ ghost use Rattle.std.specs.Prelude.{◌≡◌, ℕ, OnOk, OnErr};
 ghost use Rattle.ipc_model.specs.declared.call.Call.{Call};
 ghost use Rattle.ipc_model.specs.declared.reply.Reply.{Reply};
 
-use checkpoint_phases::Recorder;
-use epoch_log::EpochLog;
+use store_half::Recorder;
+use store_half::EpochLog;
 use ipc_model::{Call, Reply};
 use std::alloc::AllocError;
 
@@ -37,7 +37,7 @@ pub(crate) struct Witnessed<W: Witness> {
 impl<W: Witness> Recorder for Witnessed<W> {
     ghost use Rattle.std.specs.Prelude.{◌-◌, ◌<◌, ◌^◌};
     ghost use Rattle.codes.specs.declared.limits.TheConstants.{MAX_RECORDS};
-    ghost use Rattle.epoch_log.specs.Logs.{Wrote};
+    ghost use Rattle.store_half.specs.epoch_log.Logs.{Wrote};
 
     ghost has_room = { λ w. (w.log.length < MAX_RECORDS) × (w.log.made < 2 ^ 64 - 1) };
 

@@ -1,7 +1,7 @@
 use Rattle.std.proofs.Common.{◌≡◌, ◌++◌, sym, ap, ◌∙◌, arith, rules}
 use Rattle.std.specs.Prelude.{codes}
 use Rattle.std.proofs.lemmas.Result.{err_from_is_err_and}
-use Rattle.script_words.specs.Spaced.{words_of}
+use Rattle.script.specs.vocabulary.Spaced.{words_of}
 use Rattle.script.specs.Bytes.{optional_bytes_at}
 use Rattle.script.specs.Items.{after_bytes, body_at}
 use Rattle.script.proofs.ItemLoops.{all_read, item_read, item_fault, no_item_read, none_to_read}

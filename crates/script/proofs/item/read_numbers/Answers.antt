@@ -1,5 +1,5 @@
 use Rattle.std.proofs.Common.{◌≡◌, ◌++◌, ◌∷◌, [], Ok, ap, ◌∙◌, rules}
-use Rattle.script_words.specs.Spaced.{words_of}
+use Rattle.script.specs.vocabulary.Spaced.{words_of}
 use Rattle.script.proofs.ItemLoops.{number_read, numbers_done}
 use Rattle.script.proofs.Rows.{number_less}
 use Rattle.script.proofs.item.read_numbers.Goals as goal

@@ -1,5 +1,5 @@
 use Rattle.std.proofs.Common.{Some, Ok, Err, ap, sym, ◌∙◌}
-use Rattle.script_words.specs.Spaced.{words_of}
+use Rattle.script.specs.vocabulary.Spaced.{words_of}
 use Rattle.script.specs.Lines.{line_read}
 use Rattle.script.proofs.LinesAgain.{line_ok, line_blank, line_fails, line_read_again, words_of_exchange, is_read, some_words}
 use Rattle.script.proofs.line.read_line.Goals as goal

@@ -1,5 +1,5 @@
 use Rattle.std.proofs.Common.{Ok, Err, ap, ◌∙◌}
-use Rattle.script_words.specs.Spaced.{words_of}
+use Rattle.script.specs.vocabulary.Spaced.{words_of}
 use Rattle.script.specs.Lines.{on_line, request_read}
 use Rattle.script.proofs.LinesAgain.{request_fails, request_read_again, words_of_call, is_read}
 use Rattle.script.proofs.line.read_request_line.Goals as goal

@@ -1,6 +1,6 @@
 use Rattle.std.proofs.Common.{◌≡◌, ◌++◌, ◌∷◌, [], Some, None, Ok, sym, ap, ◌∙◌, rules}
 use Rattle.std.proofs.lemmas.Result.{err_from_is_err_and}
-use Rattle.script_words.specs.Spaced.{words_of}
+use Rattle.script.specs.vocabulary.Spaced.{words_of}
 use Rattle.script.specs.Replies.{named_at}
 use Rattle.script.proofs.Rows.{names_more, names_end, names_fault, named_less}
 use Rattle.script.proofs.reply.read_names.Goals as goal

@@ -1,5 +1,5 @@
 use Rattle.std.proofs.Common.{◌≡◌, length}
-use Rattle.script_words.specs.Spaced.{words_of}
+use Rattle.script.specs.vocabulary.Spaced.{words_of}
 use Rattle.script.specs.Replies.{names_at}
 use Rattle.script.proofs.Rows.{after_all}
 use Rattle.script.proofs.reply.read_names.Given as goal

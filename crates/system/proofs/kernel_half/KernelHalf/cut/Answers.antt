@@ -1,7 +1,7 @@
 use Rattle.std.proofs.Common.{rules, ◌≡◌, ◌+◌, ◌-◌, ◌<◌, ◌^◌, refl, true, ap, subst, ◌∙◌}
 use Rattle.std.specs.Prelude.{is_none}
 use Rattle.codes.specs.StoreVersion.{current}
-use Rattle.epoch_log.specs.Logs.{next_log}
+use Rattle.store_half.specs.epoch_log.Logs.{next_log}
 use Rattle.ipc_model.specs.state.State.{State}
 use Rattle.ipc_model.specs.store.Recovery.{IsImageOf}
 use Rattle.image.specs.Rows.{snapshot_encoding}

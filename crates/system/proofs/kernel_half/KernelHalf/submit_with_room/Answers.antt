@@ -1,5 +1,5 @@
 use Rattle.std.proofs.Common.{◌≤◌, ◌<◌, ◌^◌, ap, sym, subst, ◌∙◌}
-use Rattle.epoch_log.specs.Logs.{EpochLogValue, log_after}
+use Rattle.store_half.specs.epoch_log.Logs.{EpochLogValue, log_after}
 use Rattle.ipc_model.specs.state.State.{State}
 use Rattle.ipc_model.specs.calls.Step.{Step}
 use Rattle.std.specs.Prelude.{is_none}

@@ -1,5 +1,5 @@
 use Rattle.std.proofs.Common.{◌≡◌, None, false, refl, sym, ap, subst, ◌∙◌}
-use Rattle.checkpoint_phases.specs.Passed.{IsKept}
+use Rattle.store_half.specs.phases.Passed.{IsKept}
 use Rattle.ipc_model.specs.state.Circular.{Acyclic}
 use Rattle.ipc_model.specs.state.LawfulState.{LawfulState}
 use Rattle.ipc_model.specs.world.World.{first_world}

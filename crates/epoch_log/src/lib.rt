@@ -1,8 +1,0 @@
-//! Epoch logs, and the records that they release to be stored. Only an epoch log releases such records.
-#![tactic(auto)]
-
-mod log;
-mod taken;
-
-pub use log::EpochLog;
-pub use taken::Taken;

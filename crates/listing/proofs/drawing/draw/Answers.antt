@@ -1,7 +1,0 @@
-use Rattle.listing.proofs.Drawn.{draw_from_rows}
-use Rattle.listing.proofs.drawing.draw.Goals as goal
-
-pub returns : goal.returns
-returns c =
-    λ state is. draw_from_rows c.push_drawing.result c.push_drawing.new.out.items c.args.out.now.items
-    c.args.snapshot.now state is c.push_drawing.ensures

@@ -1,9 +1,0 @@
-use Rattle.std.proofs.Common.{◌≡◌, ◌++◌, drop}
-use Rattle.listing.specs.Strokes.{names_drawn}
-use Rattle.listing.proofs.drawing.push_names.Given as goal
-
--- the drawing so far, followed by the rest, is the whole drawing
-abbrev pub invariant-loop-named : goal.invariant-loop-named
-invariant-loop-named l =
-    l.out.items ++ names_drawn l.space (drop l.named-index l.names) ≡ l.fn.out.items
-    ++ names_drawn l.fn.space l.fn.names

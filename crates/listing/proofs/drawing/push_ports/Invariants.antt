@@ -1,9 +1,0 @@
-use Rattle.std.proofs.Common.{◌≡◌, ◌++◌, drop}
-use Rattle.listing.specs.Strokes.{ports_drawn}
-use Rattle.listing.proofs.drawing.push_ports.Given as goal
-
--- the drawing so far, followed by the rest, is the whole drawing
-abbrev pub invariant-loop-port : goal.invariant-loop-port
-invariant-loop-port l =
-    l.out.items ++ ports_drawn l.tallies.by_port (drop l.port-index l.ports) ≡ l.fn.out.items
-    ++ ports_drawn l.fn.tallies.by_port l.fn.ports

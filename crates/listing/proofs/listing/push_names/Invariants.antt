@@ -1,8 +1,0 @@
-use Rattle.std.proofs.Common.{◌≡◌, ◌++◌, drop}
-use Rattle.listing.specs.Rows.{names_rows}
-use Rattle.listing.proofs.listing.push_names.Given as goal
-
--- the lines so far, followed by the rest, are all lines
-abbrev pub invariant-loop-named : goal.invariant-loop-named
-invariant-loop-named l =
-    l.out.items ++ names_rows (drop l.named-index l.names) ≡ l.fn.out.items ++ names_rows l.fn.names

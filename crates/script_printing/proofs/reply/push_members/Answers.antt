@@ -1,9 +1,0 @@
-use Rattle.script_words.proofs.WordsOf.{rest_none}
-use Rattle.script_printing.specs.Replies.{members_words}
-use Rattle.script_printing.proofs.Rows.{members_gone}
-use Rattle.script_printing.proofs.reply.push_members.Goals as goal
-
-pub returns : goal.returns
-returns c =
-    rest_none _ _ (members_words c.loop-member.rest.now) _
-    (members_gone c.loop-member.rest.now c.in_default.ensures.cases) c.loop-member.invariant
