@@ -1,8 +1,10 @@
 use crate::expect::{is_there, same, same_bytes, same_in_row};
 use codes::KernReturn;
 use ipc_model::{Call, PlainCall, PlainReply, ReceiveStatus, Reply, Sequence};
-use script::{Exchange, Expected, Line, LineFault, read_line, read_request_line, read_script};
-use script::{push_call, push_exchange, push_reply};
+use script::{
+    Exchange, Expected, Line, LineFault, push_call, push_exchange, push_reply, read_line,
+    read_request_line, read_script,
+};
 use std::alloc::{AllocError, Global};
 
 // Returns true if an exchange is printed as this line.

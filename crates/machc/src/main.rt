@@ -3,8 +3,7 @@
 #![tactic(auto)]
 
 use command_line::{question_in, read_words, tell_about};
-use relay::run_client;
-use relay::{run_shell, script_socket};
+use relay::{run_client, run_shell, script_socket};
 use std::io::{self, BufReader, BufWriter, IsTerminal};
 use std::process::ExitCode;
 use wire::WireFault;

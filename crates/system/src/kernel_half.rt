@@ -9,15 +9,13 @@ ghost use Rattle.waiting.specs.Waiting.{Wakes};
 
 use crate::Ticket;
 use crate::witness::{Witness, Witnessed};
-use store_half::Kernel;
 use codes::MAX_RECORDS;
-use store_half::{EpochLog, Taken};
 use image::image_is_of_state;
 use ipc_model::{Call, Reply, call_in_range};
 use journal::Batch;
 use std::alloc::{AllocError, Global};
 use std::marker::Model;
-use store_half::{Cut, Finished, Receipt};
+use store_half::{Cut, EpochLog, Finished, Kernel, Receipt, Taken};
 use waiting::Places;
 
 /// Why a call wasn't made. Nothing changed.

@@ -11,11 +11,10 @@ mod system;
 mod ticket;
 mod witness;
 
-pub use store_half::{Kernel, Opened, open};
-pub use store_half::Taken;
 pub use event::{Event, Outcome};
 pub use kernel_half::{KernelHalf, SubmitFault};
 pub use laws::{calls_are_made_once, crashes_keep_calls};
+pub use store_half::{Kernel, Opened, Taken, open};
 pub use system::{CallFault, System};
 pub use ticket::Ticket;
 pub use witness::Witness;

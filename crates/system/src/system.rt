@@ -13,14 +13,12 @@ ghost use Rattle.system.specs.Halves.{CannotTake, TicketValue};
 
 use crate::kernel_half::{KernelHalf, SubmitFault};
 use crate::ticket::Tickets;
-use store_half::Opened;
 use disk::Disk;
-use store_half::Taken;
 use ipc_model::{Call, Reply};
 use std::alloc::Global;
 use std::marker::Model;
 use store_fault::StoreFault;
-use store_half::{Finished, Receipt, StoreHalf};
+use store_half::{Finished, Opened, Receipt, StoreHalf, Taken};
 use waiting::Places;
 
 /// Why a call of a single caller wasn't answered.

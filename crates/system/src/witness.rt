@@ -2,10 +2,9 @@ ghost use Rattle.std.specs.Prelude.{◌≡◌, ℕ, OnOk, OnErr};
 ghost use Rattle.ipc_model.specs.declared.call.Call.{Call};
 ghost use Rattle.ipc_model.specs.declared.reply.Reply.{Reply};
 
-use store_half::Recorder;
-use store_half::EpochLog;
 use ipc_model::{Call, Reply};
 use std::alloc::AllocError;
+use store_half::{EpochLog, Recorder};
 
 /// Learns of the record of a call before the call is committed.
 pub trait Witness {
