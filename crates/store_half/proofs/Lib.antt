@@ -1,1 +1,2 @@
 mod Shapes
+pub mod phases

@@ -4,13 +4,12 @@
 
 mod clearing;
 mod epoch_log;
-mod phases;
 mod receipt;
 mod store_half;
 mod under_way;
 
 pub use epoch_log::{EpochLog, Taken};
-pub use phases::{Kernel, Opened, Recorder, open};
 pub use receipt::{Finished, Receipt};
+pub use recover::{Kernel, Opened, Recorder, open};
 pub use store_half::StoreHalf;
 pub use under_way::Cut;
