@@ -22,7 +22,7 @@ sys.path[:0] = [str(HERE / "python"), str(HERE.parent / "stress")]
 import machine  # noqa: E402
 import machipc  # noqa: E402
 from frames import Frames, words  # noqa: E402
-from machine import ARGUMENTS, ATTACH, CONFINE, MACH_MSG, NUMBERED  # noqa: E402
+from machine import ARGUMENTS, ATTACH, CONFINE, LAST_REQUEST, MACH_MSG, NUMBERED  # noqa: E402
 
 FIRST, NO_ACCESS, NO_CALL, NO_TASK = 1, 8, 4, 16
 ALLOCATE, TYPE, SPACE_CREATE, SPACE_DESTROY = 5, 2, 20, 21
@@ -150,7 +150,7 @@ def sample(name):
     arguments |= {10: [name, 3], 11: [name, 1], 12: [name, 1], 15: [name, 0], 17: [name, name, 20], 18: [name, 20], 20: [name, 20]}
     arguments |= {ALLOCATE: [1], 1: [], SPACE_DESTROY: [], CONFINE: []}
     last = (6, 3, SPACE_DESTROY)
-    plain = [words(it, *arguments.get(it, [name])) for it in ARGUMENTS if it not in last]
+    plain = [words(it, *arguments.get(it, [name])) for it in ARGUMENTS if it not in (*last, LAST_REQUEST)]
     messages = [send(machine.MAKE_SEND, name), receive(name), words(MACH_MSG, 3, 100, name, 0) + bytes(24)]
     numbered = [words(NUMBERED, 1, ALLOCATE, 1), words(NUMBERED, 1, 99, 1), words(NUMBERED, 0, MACH_MSG)]
     return [*plain, *messages, *numbered, *(words(it, *arguments.get(it, [name])) for it in last)]
@@ -175,7 +175,7 @@ def renewed(server):
         again, name = first.results(SPACE_CREATE, port, machine.MOVE_RECEIVE)
         wants(again == space, f"the new space has the number {again}, not {space}")
         wants(confined.ask(*frames) == [gone(it) for it in frames], "a confined connection whose space's number is another's")
-        is_call = [words(24), words(CONFINE, 0), words(NUMBERED, 1), words(MACH_MSG, 0, 0, 0), words(MACH_MSG, 0x20, 0, 0, 0)]
+        is_call = [words(25), words(CONFINE, 0), words(NUMBERED, 1), words(MACH_MSG, 0, 0, 0), words(MACH_MSG, 0x20, 0, 0, 0)]
         wants(all(struct.unpack_from("<I", it, 4)[0] == NO_CALL for it in confined.ask(*is_call)), "frames that are no call")
         wants(confined.ask(words(MACH_MSG, 0, 0, 0, 0)) == [words(MACH_MSG, 0, 0, 0)], "neither a send nor a receive")
         codes = [struct.unpack_from("<I", it, 4)[0] for it in follower.ask(*frames[1:])]
