@@ -1,6 +1,7 @@
 #include "frame.h"
 
 #include <errno.h>
+#include <poll.h>
 #include <string.h>
 #include <sys/socket.h>
 #include <sys/types.h>
@@ -69,26 +70,49 @@ const unsigned char *frame_rest(const struct frame *frame) {
     return frame->bytes + PREFIX + frame->place;
 }
 
+bool frame_await(int socket, short event, const struct clock_wait *wait) {
+    struct pollfd polled = {.fd = socket, .events = event};
+    int found;
+    do {
+        found = poll(&polled, 1, (int) clock_wait_left(wait));
+    } while (found < 0 && errno == EINTR);
+    if (found == 0) {
+        errno = ETIMEDOUT;
+    }
+    return found > 0;
+}
+
 /* Signals interrupt neither of these two, and a peer that disconnected raises none. */
 
-static bool send_all(int socket, const unsigned char *bytes, size_t count) {
+static bool send_all(int socket, const unsigned char *bytes, size_t count, const struct clock_wait *wait) {
     while (count > 0) {
-        ssize_t sent = send(socket, bytes, count, MSG_NOSIGNAL);
-        if (sent < 0 && errno != EINTR) {
-            return false;
-        }
+        ssize_t sent = send(socket, bytes, count, MSG_NOSIGNAL | MSG_DONTWAIT);
         if (sent > 0) {
             bytes += sent;
             count -= (size_t) sent;
+            continue;
+        }
+        if (errno == EAGAIN && frame_await(socket, POLLOUT, wait)) {
+            continue;
+        }
+        if (errno != EINTR) {
+            return false;
         }
     }
     return true;
 }
 
-static bool receive_all(int socket, unsigned char *bytes, size_t count) {
+static bool receive_all(int socket, unsigned char *bytes, size_t count, const struct clock_wait *wait) {
     while (count > 0) {
-        ssize_t received = recv(socket, bytes, count, 0);
-        if (received == 0 || (received < 0 && errno != EINTR)) {
+        if (!frame_await(socket, POLLIN, wait)) {
+            return false;
+        }
+        ssize_t received = recv(socket, bytes, count, MSG_DONTWAIT);
+        if (received == 0) {
+            errno = ECONNRESET;
+            return false;
+        }
+        if (received < 0 && errno != EINTR && errno != EAGAIN) {
             return false;
         }
         if (received > 0) {
@@ -99,20 +123,24 @@ static bool receive_all(int socket, unsigned char *bytes, size_t count) {
     return true;
 }
 
-bool frame_send(struct frame *frame, int socket) {
+bool frame_send(struct frame *frame, int socket, const struct clock_wait *wait) {
     write_word(frame->bytes, (uint32_t) frame->length);
-    return send_all(socket, frame->bytes, PREFIX + frame->length);
+    return send_all(socket, frame->bytes, PREFIX + frame->length, wait);
 }
 
-bool frame_receive(struct frame *frame, int socket) {
+bool frame_receive(struct frame *frame, int socket, const struct clock_wait *wait) {
     frame->length = 0;
     frame->place = 0;
     frame->is_bad = false;
-    if (!receive_all(socket, frame->bytes, PREFIX)) {
+    if (!receive_all(socket, frame->bytes, PREFIX, wait)) {
         return false;
     }
     size_t length = read_word(frame->bytes);
-    if (length < 4 || length > FRAME_LONGEST || !receive_all(socket, frame->bytes + PREFIX, length)) {
+    if (length < 4 || length > FRAME_LONGEST) {
+        errno = EPROTO;
+        return false;
+    }
+    if (!receive_all(socket, frame->bytes + PREFIX, length, wait)) {
         return false;
     }
     frame->length = length;

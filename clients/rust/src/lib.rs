@@ -106,6 +106,7 @@ mod items;
 mod message;
 mod messaging;
 mod name;
+mod paths;
 mod received;
 mod rights;
 #[allow(unsafe_code)]
