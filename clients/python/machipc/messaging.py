@@ -91,9 +91,10 @@ class Messaging(Exchange):
         return longest if left is None else min(left, longest)
 
     def _mach_msg_part(self, option: int, limit: int, name: int, part: float, text: bytes = b"") -> Tuple[int, bytes]:
+        has_both = option & wire.SEND_MSG and option & wire.RCV_MSG
         option |= wire.SEND_TIMEOUT | wire.RCV_TIMEOUT
         frame = wire.words(wire.MACH_MSG) + wire.mach_msg(option, limit, name, part, text)
-        return self._answer(wire.MACH_MSG, self._exchange(frame, 2 * part))
+        return self._answer(wire.MACH_MSG, self._exchange(frame, 2 * part if has_both else part))
 
     def _received(self, code: int, results: bytes, limit: int) -> Message:
         try:

@@ -129,9 +129,10 @@ impl Task {
 
     /// Makes a part of a call, of which each half has this timeout.
     fn mach_msg(&self, option: u32, limit: u32, name: Name, part: Duration, bytes: &[u8]) -> Result<Vec<u8>> {
+        let halves = (option & (wire::SEND_MSG | wire::RCV_MSG)).count_ones();
         let option = option | wire::SEND_TIMEOUT | wire::RCV_TIMEOUT;
         let call = Call::mach_msg(option, limit, name.0, milliseconds(part), bytes);
-        self.shared.exchange_waiting(&call, 2 * part).and_then(message_of)
+        self.shared.exchange_waiting(&call, halves * part).and_then(message_of)
     }
 
     /// Returns the error of a send, with the message if that wasn't sent. If the send was numbered, a cut leaves open

@@ -1,0 +1,56 @@
+#!/usr/bin/env python3
+"""Calls of a task whose server moves from one path to another: tests_paths.py [async].
+
+clients/test cuts the paths, reads what this prints, and writes a line when it continues.
+"""
+
+import asyncio
+import pathlib
+import sys
+
+sys.path.insert(0, str(pathlib.Path(__file__).resolve().parent))
+
+from machipc import *  # noqa: E402,F403
+
+PATIENCE = 12.0
+
+
+def say(*words):
+    print(*words, flush=True)
+
+
+def run():
+    task = Task.adopt(once=True, patience=PATIENCE)
+    say("port", task.space, task.bootstrap)
+    say("got", task.receive(task.bootstrap).id)
+    sys.stdin.readline()
+    say("made", task.allocate().detach())
+    task.close()
+    task = Task.adopt(patience=PATIENCE)
+    say("plain")
+    try:
+        task.receive(task.bootstrap)
+    except MACH_RCV_INTERRUPTED:
+        say("cut")
+
+
+async def run_async():
+    task = await AsyncTask.adopt(once=True, patience=PATIENCE)
+    say("port", task.space, task.bootstrap)
+    say("got", (await task.receive(task.bootstrap)).id)
+    sys.stdin.readline()
+    say("made", (await task.allocate()).detach())
+    await task.close()
+    task = await AsyncTask.adopt(patience=PATIENCE)
+    say("plain")
+    try:
+        await task.receive(task.bootstrap)
+    except MACH_RCV_INTERRUPTED:
+        say("cut")
+
+
+if __name__ == "__main__":
+    if sys.argv[1:] == ["async"]:
+        asyncio.run(run_async())
+    else:
+        run()
