@@ -143,6 +143,33 @@ def refused(server):
     return "attach, confine"
 
 
+def last_request(server):
+    """Call 24 tells the request of the kept reply and the number of the call in it, and changes nothing."""
+    space, _, port = space_with(server.path)
+    with Connection(server.path, words(ATTACH, space), words(CONFINE)) as one, Connection(server.path) as first:
+        (answer,) = one.ask(words(LAST_REQUEST))
+        if answer == words(LAST_REQUEST, NO_CALL):
+            remove(server.path, space)
+            return "the server has no such call"
+        wants(answer == words(LAST_REQUEST, 0, 0, 0), "no reply is kept")
+        for request, call in ((7, words(4, machine.RECEIVE, 0x500)), (9, words(10, 0x500, 2))):
+            wants(one.code(words(NUMBERED, request) + call) == 0, "a numbered call")
+            wants(one.ask(words(LAST_REQUEST)) == [words(LAST_REQUEST, 0, request) + call[:4]], "a reply is kept")
+        wants(one.code(words(NUMBERED, 11, 6, 0)) == 0, "a refused call")
+        wants(one.results(LAST_REQUEST) == (9, 10), "a refused call is kept")
+        wants(first.results(LAST_REQUEST) == (0, 0), "the first space has another's number")
+        for arguments in (b"\0", words(0)):
+            wants(one.ask(words(LAST_REQUEST) + arguments) == [words(LAST_REQUEST, NO_CALL)], "arguments")
+        wants(one.ask(words(NUMBERED, 12, LAST_REQUEST)) == [words(NUMBERED, NO_CALL)], "a numbered one")
+        remove(server.path, space)
+        wants(one.ask(words(LAST_REQUEST)) == [words(LAST_REQUEST, NO_TASK)], "its space is gone")
+        again, _ = first.results(SPACE_CREATE, port, machine.MOVE_RECEIVE)
+        with Connection(server.path, words(ATTACH, again)) as follower:
+            wants(follower.results(LAST_REQUEST) == (0, 0), "a new space has a former one's number")
+    remove(server.path, again)
+    return "asked in 4 states"
+
+
 def sample(name):
     """Returns a frame of each call. A space with a receive right of this name would execute it, or refuse it for
     reasons of its own. The calls that take the right away are last."""

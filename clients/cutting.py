@@ -111,7 +111,7 @@ class Cutting(Relay):
     def __init__(self, server_path, rate, seed):
         super().__init__(f"{server_path}.cut", server_path)
         self.rate, self.random = rate / 1000, random.Random(seed)
-        self.cuts = 0
+        self.cuts, self.frames = 0, 0
         self.waiting = set()  # connections of clients whose frame isn't answered yet
 
     def serve(self, client):
@@ -122,6 +122,7 @@ class Cutting(Relay):
 
     def choose(self):
         with self.lock:
+            self.frames += 1
             if self.random.random() >= self.rate:
                 return None
             how = self.random.choice(CUTS)

@@ -115,6 +115,7 @@ static kern_return_t end_wait(struct connection *watch) {
     set_timer(watch, 0);
     if (!frame_receive(&watch->reply, watch->socket, &rest)) {
         connection_close(watch);
+        connection_close(connection_of_thread()); /* it has the same path */
         return MACH_RCV_INTERRUPTED;
     }
     kern_return_t code = call_read(watch, CALL_MACH_MSG);

@@ -213,6 +213,7 @@ class AsyncTask:
         except OSError as fault:
             connection.close()
             self._close_idle()  # they are cut too
+            await self._run(self.task.close)
             raise (MACH_RCV_INTERRUPTED if is_out else MACH_SEND_INTERRUPTED)(str(fault)) from None
         except BaseException:
             connection.close()
