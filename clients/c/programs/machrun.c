@@ -33,6 +33,7 @@
 static const char usage[] =
     "machrun [--keep] [--open] [--adopt] [--user NAME] SOCKET COMMAND..\n"
     "Makes a space on the server at SOCKET, runs the command confined to it, and destroys it when the command has ended.\n"
+    "SOCKET is a path, or PATH1:PATH2: the first that leads to the server.\n"
     "With --keep a command that fails is started again in the same space, with --open it isn't confined, and with --user it\n"
     "runs as that user. With --adopt it gets the space that the environment names, which stays.\n";
 
