@@ -148,12 +148,15 @@ class Exchange:
 
     def _last_request(self) -> int:
         """Returns the greatest number that the space has used."""
+        last: int
         try:
-            last, _ = struct.unpack("<2I", self._results(wire.LAST_REQUEST, self._exchange_repeated(wire.words(wire.LAST_REQUEST))))
+            results = self._results(wire.LAST_REQUEST, self._exchange_repeated(wire.words(wire.LAST_REQUEST)))
         except KERN_INVALID_ARGUMENT:
             last = self._search_last_request()
-        except struct.error:
-            raise self._mismatch() from None
+        else:
+            if len(results) != 8:
+                raise self._mismatch()
+            last, _ = struct.unpack("<2I", results)
         if last >= _LAST_NUMBER - 1:
             raise KERN_INVALID_ARGUMENT("the space has used all numbers")
         return last
