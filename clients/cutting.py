@@ -105,6 +105,30 @@ class Way(Relay):
             self.servers.discard(server)
 
 
+class Full:
+    """A socket at `path` where as many connections wait as may, and none is accepted."""
+
+    def __init__(self, path):
+        self.path = path
+
+    def __enter__(self):
+        listener = socket.socket(socket.AF_UNIX)
+        listener.bind(self.path)
+        listener.listen(0)
+        self.sockets = [listener]
+        with contextlib.suppress(BlockingIOError):
+            while True:
+                self.sockets.append(socket.socket(socket.AF_UNIX))
+                self.sockets[-1].setblocking(False)
+                self.sockets[-1].connect(self.path)
+        return self
+
+    def __exit__(self, *_):
+        for it in self.sockets:
+            it.close()
+        os.unlink(self.path)
+
+
 class Cutting(Relay):
     """A relay that cuts `rate` of a thousand frames."""
 
