@@ -3,10 +3,9 @@
 
     clients/standin.py [--old] SOCKET [FILE]
 
-It does all that clients see of a server on a socket, with waiting calls and numbered requests; with --old as a server of
-a version that has no call 24. Each change is written
-to FILE before it is answered, so a stand-in that is killed and started again continues with the same state. It isn't
-made for power failures.
+It does all that clients see of a server on a socket, with waiting calls and numbered requests; with --old it has no
+call 24, as a server of an older version. Each change is written to FILE before it is answered, so a stand-in that is
+killed and started again continues with the same state. It isn't made for power failures.
 """
 
 import argparse
