@@ -106,7 +106,7 @@ impl Task {
             let part = self.part(&wait);
             match self.mach_msg(wire::SEND_MSG | wire::RCV_MSG, options.limit, from, part, &bytes) {
                 Err(Error::MachSendTimedOut) if !wait.is_over() => {}
-                Err(Error::MachRcvTimedOut) if timeout.map_or(true, |it| part < it) => {
+                Err(Error::MachRcvTimedOut) if timeout.map_or(true, |it| self.answer_time() < it) => {
                     message.forget();
                     let rest = ReceiveOptions { timeout: timeout.map(|it| it - part), ..options };
                     return self.receive(from, &rest).map_err(|error| SendError::gone(error, Message::new(0)));
