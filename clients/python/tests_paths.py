@@ -24,12 +24,14 @@ def run():
     say("port", task.space, task.bootstrap)
     say("got", task.receive(task.bootstrap).id)
     sys.stdin.readline()
-    say("made", task.allocate().detach())
+    made = task.allocate().detach()
+    say("made", made)
     task.close()
     task = Task.adopt(patience=PATIENCE)
     say("plain")
+    say("replied", task.send_receive(Message(task.bootstrap, MAKE_SEND, id=8), made).id)
     try:
-        task.receive(task.bootstrap)
+        task.receive(made)
     except MACH_RCV_INTERRUPTED:
         say("cut")
 
@@ -39,12 +41,14 @@ async def run_async():
     say("port", task.space, task.bootstrap)
     say("got", (await task.receive(task.bootstrap)).id)
     sys.stdin.readline()
-    say("made", (await task.allocate()).detach())
+    made = (await task.allocate()).detach()
+    say("made", made)
     await task.close()
     task = await AsyncTask.adopt(patience=PATIENCE)
     say("plain")
+    say("replied", (await task.send_receive(Message(task.bootstrap, MAKE_SEND, id=8), made)).id)
     try:
-        await task.receive(task.bootstrap)
+        await task.receive(made)
     except MACH_RCV_INTERRUPTED:
         say("cut")
 

@@ -62,7 +62,11 @@ int main(int count, char **words) {
     printf("made %u\n", (unsigned) made);
     CHECK_OK(machipc_adopt(&task));
     puts("plain");
-    CHECK_CODE(receive(&message, task.bootstrap), MACH_RCV_INTERRUPTED);
+    message = (mach_msg_header_t){.msgh_bits = MACH_MSGH_BITS(MACH_MSG_TYPE_MAKE_SEND, 0), .msgh_id = 8};
+    message.msgh_remote_port = task.bootstrap;
+    CHECK_OK(mach_msg(&message, MACH_SEND_MSG | MACH_RCV_MSG, sizeof message, sizeof message, made, 0, MACH_PORT_NULL));
+    printf("replied %d\n", message.msgh_id);
+    CHECK_CODE(receive(&message, made), MACH_RCV_INTERRUPTED);
     puts("cut");
     return check_status();
 }

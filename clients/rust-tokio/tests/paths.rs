@@ -4,7 +4,7 @@
 use std::io;
 use std::time::Duration;
 
-use machipc::{Error, Options, ReceiveRight};
+use machipc::{Disposition, Error, Message, Options, ReceiveRight};
 use machipc_tokio::{call, Receiver};
 
 async fn run() {
@@ -15,10 +15,14 @@ async fn run() {
     let receiver = Receiver::new(ReceiveRight::from_name(&task, port));
     println!("got {}", receiver.receive(None).await.unwrap().id());
     io::stdin().read_line(&mut String::new()).unwrap();
-    println!("made {}", call(move || task.allocate()).await.unwrap().forget().0);
+    let made = call(move || task.allocate()).await.unwrap().forget();
+    println!("made {}", made.0);
     let task = call(move || options.adopt()).await.unwrap();
     println!("plain");
-    let plain = Receiver::new(ReceiveRight::from_name(&task, port));
+    let sender = task.clone();
+    call(move || sender.send(port, Disposition::MakeSend, Message::new(8), None)).await.unwrap();
+    let plain = Receiver::new(ReceiveRight::from_name(&task, made));
+    println!("replied {}", plain.receive(None).await.unwrap().id());
     let cut = plain.receive(None).await.unwrap_err();
     assert_eq!(cut, Error::MachRcvInterrupted(io::ErrorKind::TimedOut));
     println!("cut");

@@ -4,7 +4,7 @@
 use std::io;
 use std::time::Duration;
 
-use machipc::{Error, Options, ReceiveOptions};
+use machipc::{Disposition, Error, Message, Options, ReceiveOptions};
 
 #[test]
 #[ignore = "clients/test runs it"]
@@ -15,10 +15,13 @@ fn moved() {
     println!("\nport {} {}", task.space(), port.0);
     println!("got {}", task.receive(port, &ReceiveOptions::default()).unwrap().id());
     io::stdin().read_line(&mut String::new()).unwrap();
-    println!("made {}", task.allocate().unwrap().forget().0);
+    let made = task.allocate().unwrap().forget();
+    println!("made {}", made.0);
     let task = options.adopt().unwrap();
     println!("plain");
-    let cut = task.receive(port, &ReceiveOptions::default()).unwrap_err();
+    let reply = task.send_receive(port, Disposition::MakeSend, Message::new(8), made, None).unwrap();
+    println!("replied {}", reply.id());
+    let cut = task.receive(made, &ReceiveOptions::default()).unwrap_err();
     assert_eq!(cut, Error::MachRcvInterrupted(io::ErrorKind::TimedOut));
     println!("cut");
 }
