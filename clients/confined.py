@@ -22,7 +22,7 @@ sys.path[:0] = [str(HERE / "python"), str(HERE.parent / "stress")]
 import machine  # noqa: E402
 import machipc  # noqa: E402
 from frames import Frames, words  # noqa: E402
-from machine import ARGUMENTS, ATTACH, CONFINE, MACH_MSG, NUMBERED  # noqa: E402
+from machine import ARGUMENTS, ATTACH, CONFINE, LAST_REQUEST, MACH_MSG, NUMBERED  # noqa: E402
 
 FIRST, NO_ACCESS, NO_CALL, NO_TASK = 1, 8, 4, 16
 ALLOCATE, TYPE, SPACE_CREATE, SPACE_DESTROY = 5, 2, 20, 21
@@ -143,6 +143,33 @@ def refused(server):
     return "attach, confine"
 
 
+def last_request(server):
+    """Call 24 tells the request of the kept reply and the number of the call in it, and changes nothing."""
+    space, _, port = space_with(server.path)
+    with Connection(server.path, words(ATTACH, space), words(CONFINE)) as one, Connection(server.path) as first:
+        (answer,) = one.ask(words(LAST_REQUEST))
+        if answer == words(LAST_REQUEST, NO_CALL):
+            remove(server.path, space)
+            return "the server has no such call"
+        wants(answer == words(LAST_REQUEST, 0, 0, 0), "no reply is kept")
+        for request, call in ((7, words(4, machine.RECEIVE, 0x500)), (9, words(10, 0x500, 2))):
+            wants(one.code(words(NUMBERED, request) + call) == 0, "a numbered call")
+            wants(one.ask(words(LAST_REQUEST)) == [words(LAST_REQUEST, 0, request) + call[:4]], "a reply is kept")
+        wants(one.code(words(NUMBERED, 11, 6, 0)) == 0, "a refused call")
+        wants(one.results(LAST_REQUEST) == (9, 10), "a refused call is kept")
+        wants(first.results(LAST_REQUEST) == (0, 0), "the first space has another's number")
+        for arguments in (b"\0", words(0)):
+            wants(one.ask(words(LAST_REQUEST) + arguments) == [words(LAST_REQUEST, NO_CALL)], "arguments")
+        wants(one.ask(words(NUMBERED, 12, LAST_REQUEST)) == [words(NUMBERED, NO_CALL)], "a numbered one")
+        remove(server.path, space)
+        wants(one.ask(words(LAST_REQUEST)) == [words(LAST_REQUEST, NO_TASK)], "its space is gone")
+        again, _ = first.results(SPACE_CREATE, port, machine.MOVE_RECEIVE)
+        with Connection(server.path, words(ATTACH, again)) as follower:
+            wants(follower.results(LAST_REQUEST) == (0, 0), "a new space has a former one's number")
+    remove(server.path, again)
+    return "asked in 4 states"
+
+
 def sample(name):
     """Returns a frame of each call. A space with a receive right of this name would execute it, or refuse it for
     reasons of its own. The calls that take the right away are last."""
@@ -150,7 +177,7 @@ def sample(name):
     arguments |= {10: [name, 3], 11: [name, 1], 12: [name, 1], 15: [name, 0], 17: [name, name, 20], 18: [name, 20], 20: [name, 20]}
     arguments |= {ALLOCATE: [1], 1: [], SPACE_DESTROY: [], CONFINE: []}
     last = (6, 3, SPACE_DESTROY)
-    plain = [words(it, *arguments.get(it, [name])) for it in ARGUMENTS if it not in last]
+    plain = [words(it, *arguments.get(it, [name])) for it in ARGUMENTS if it not in (*last, LAST_REQUEST)]
     messages = [send(machine.MAKE_SEND, name), receive(name), words(MACH_MSG, 3, 100, name, 0) + bytes(24)]
     numbered = [words(NUMBERED, 1, ALLOCATE, 1), words(NUMBERED, 1, 99, 1), words(NUMBERED, 0, MACH_MSG)]
     return [*plain, *messages, *numbered, *(words(it, *arguments.get(it, [name])) for it in last)]
@@ -175,7 +202,7 @@ def renewed(server):
         again, name = first.results(SPACE_CREATE, port, machine.MOVE_RECEIVE)
         wants(again == space, f"the new space has the number {again}, not {space}")
         wants(confined.ask(*frames) == [gone(it) for it in frames], "a confined connection whose space's number is another's")
-        is_call = [words(24), words(CONFINE, 0), words(NUMBERED, 1), words(MACH_MSG, 0, 0, 0), words(MACH_MSG, 0x20, 0, 0, 0)]
+        is_call = [words(25), words(CONFINE, 0), words(NUMBERED, 1), words(MACH_MSG, 0, 0, 0), words(MACH_MSG, 0x20, 0, 0, 0)]
         wants(all(struct.unpack_from("<I", it, 4)[0] == NO_CALL for it in confined.ask(*is_call)), "frames that are no call")
         wants(confined.ask(words(MACH_MSG, 0, 0, 0, 0)) == [words(MACH_MSG, 0, 0, 0)], "neither a send nor a receive")
         codes = [struct.unpack_from("<I", it, 4)[0] for it in follower.ask(*frames[1:])]

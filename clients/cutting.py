@@ -1,6 +1,7 @@
-"""A relay in front of a server's socket that cuts connections at random, for tests of the clients.
+"""Relays in front of a server's socket, for tests of the clients: one that cuts connections at random, and one that is cut
+off from the server for a time.
 
-A connection may be cut before the server has the frame, or after the call was made, with the reply lost as a whole or
+At random a connection may be cut before the server has the frame, or after the call was made, with the reply lost as a whole or
 in part. The client may repeat the call on another connection while the first one is still being executed, and a
 connection that waits may be cut.
 """
@@ -28,15 +29,12 @@ def read_frame(from_socket):
     return text
 
 
-class Cutting:
-    """A socket at `path` that passes connections on to the server at `server_path`, and cuts `rate` of a thousand
-    frames."""
+class Relay:
+    """A socket at `path` that passes connections on to the server at `server_path`."""
 
-    def __init__(self, server_path, rate, seed):
-        self.path, self.server_path, self.rate = f"{server_path}.cut", server_path, rate / 1000
-        self.random, self.lock = random.Random(seed), threading.Lock()
-        self.cuts = 0
-        self.waiting = set()  # connections of clients whose frame isn't answered yet
+    def __init__(self, path, server_path):
+        self.path, self.server_path = path, server_path
+        self.lock = threading.Lock()
 
     def __enter__(self):
         self.listener = socket.socket(socket.AF_UNIX)
@@ -58,6 +56,88 @@ class Cutting:
                 client, _ = self.listener.accept()
                 threading.Thread(target=self.serve, args=(client,), daemon=True).start()
 
+
+class Way(Relay):
+    """A relay that can be cut for a time, as a proxy is whose other side is gone: it goes on accepting, keeps its
+    connections, and passes nothing on."""
+
+    def __init__(self, path, server_path, is_cut):
+        super().__init__(path, server_path)
+        self.is_cut, self.servers = is_cut, set()
+
+    def cut(self):
+        with self.lock:
+            self.is_cut = True
+            for it in self.servers:
+                it.shutdown(socket.SHUT_RDWR)
+
+    def heal(self):
+        """Passes new connections on."""
+        with self.lock:
+            self.is_cut = False
+
+    def serve(self, client):
+        with contextlib.suppress(OSError), client:
+            with socket.socket(socket.AF_UNIX) as server:
+                if self.begin(server):
+                    self.pass_on(client, server)
+            while self.is_cut and client.recv(1 << 16):
+                pass
+
+    def begin(self, server):
+        with self.lock:
+            if self.is_cut:
+                return False
+            server.connect(self.server_path)
+            self.servers.add(server)
+            return True
+
+    def pass_on(self, client, server):
+        """Passes bytes on in both directions until one side ends."""
+        some = b"some"
+        while some:
+            for it in select.select([client, server], [], [])[0]:
+                some = it.recv(1 << 16)
+                if self.is_cut:
+                    some = b""
+                (server if it is client else client).sendall(some)
+        with self.lock:
+            self.servers.discard(server)
+
+
+class Full:
+    """A socket at `path` where as many connections wait as may, and none is accepted."""
+
+    def __init__(self, path):
+        self.path = path
+
+    def __enter__(self):
+        listener = socket.socket(socket.AF_UNIX)
+        listener.bind(self.path)
+        listener.listen(0)
+        self.sockets = [listener]
+        with contextlib.suppress(BlockingIOError):
+            while True:
+                self.sockets.append(socket.socket(socket.AF_UNIX))
+                self.sockets[-1].setblocking(False)
+                self.sockets[-1].connect(self.path)
+        return self
+
+    def __exit__(self, *_):
+        for it in self.sockets:
+            it.close()
+        os.unlink(self.path)
+
+
+class Cutting(Relay):
+    """A relay that cuts `rate` of a thousand frames."""
+
+    def __init__(self, server_path, rate, seed):
+        super().__init__(f"{server_path}.cut", server_path)
+        self.rate, self.random = rate / 1000, random.Random(seed)
+        self.cuts, self.frames = 0, 0
+        self.waiting = set()  # connections of clients whose frame isn't answered yet
+
     def serve(self, client):
         with contextlib.suppress(OSError), client, socket.socket(socket.AF_UNIX) as server:
             server.connect(self.server_path)
@@ -66,6 +146,7 @@ class Cutting:
 
     def choose(self):
         with self.lock:
+            self.frames += 1
             if self.random.random() >= self.rate:
                 return None
             how = self.random.choice(CUTS)

@@ -1,11 +1,11 @@
 #!/usr/bin/env python3
 """A stand-in for the server, for tests of the clients: the model of stress/machine.py on a Unix socket.
 
-    clients/standin.py SOCKET [FILE]
+    clients/standin.py [--old] SOCKET [FILE]
 
-It does all that clients see of a server on a socket, with waiting calls and numbered requests. Each change is written
-to FILE before it is answered, so a stand-in that is killed and started again continues with the same state. It isn't
-made for power failures.
+It does all that clients see of a server on a socket, with waiting calls and numbered requests; with --old it has no
+call 24, as a server of an older version. Each change is written to FILE before it is answered, so a stand-in that is
+killed and started again continues with the same state. It isn't made for power failures.
 """
 
 import argparse
@@ -197,9 +197,12 @@ class Standin:
 
 def main():
     words = argparse.ArgumentParser(description="A stand-in for the server, for tests of the clients.")
+    words.add_argument("--old", action="store_true")
     words.add_argument("socket")
     words.add_argument("file", nargs="?")
     given = words.parse_args()
+    if given.old:
+        del machine.ARGUMENTS[machine.LAST_REQUEST]
     Standin(given.socket, given.file).run()
 
 

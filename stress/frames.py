@@ -70,7 +70,7 @@ class Frames:
         if number == NUMBERED:
             return words(number) + self.numbered()
         if number not in ARGUMENTS:
-            return words(self.random.choice([24, 99, LAST_WORD])) + bytes(self.random.choice([0, 1, 4, 8]))
+            return words(self.random.choice([25, 99, LAST_WORD])) + bytes(self.random.choice([0, 1, 4, 8]))
         arguments = words(*self.arguments(number))
         return words(number) + arguments + bytes(4 * (self.random.random() < 0.003))
 

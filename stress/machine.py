@@ -46,15 +46,15 @@ MACH_RCV_HEADER_ERROR, MACH_MSG_IPC_SPACE = 0x1000400B, 0x2000
 
 SEND_MSG, RCV_MSG, SEND_TIMEOUT, RCV_TIMEOUT, RCV_LARGE = 1, 2, 0x10, 0x100, 0x800
 OPTIONS = SEND_MSG | RCV_MSG | SEND_TIMEOUT | RCV_TIMEOUT | RCV_LARGE
-ATTACH, MACH_MSG, NUMBERED, CONFINE = 0, 19, 22, 23
+ATTACH, MACH_MSG, NUMBERED, CONFINE, LAST_REQUEST = 0, 19, 22, 23, 24
 
 MOST_NAMES, MOST_PORTS, MOST_SPACES, MOST_RIGHTS = 4096, 16384, 256, 256
 MOST_SENDS, MOST_DEAD, MOST_QUEUED, LONGEST = 65_534, 65_535, 64, 8192
 
 # Number of words in the arguments of each call except mach_msg.
 ARGUMENTS = {0: 1, 1: 0, 2: 1, 3: 2, 4: 2, 5: 1, 6: 1, 7: 1, 8: 2, 9: 3, 10: 2, 11: 2, 12: 2}
-ARGUMENTS |= {13: 1, 14: 1, 15: 2, 16: 5, 17: 3, 18: 2, 20: 2, 21: 0, CONFINE: 0}
-WITHOUT_RECORD = {0, 1, 2, 8, 13, 14, CONFINE}
+ARGUMENTS |= {13: 1, 14: 1, 15: 2, 16: 5, 17: 3, 18: 2, 20: 2, 21: 0, CONFINE: 0, LAST_REQUEST: 0}
+WITHOUT_RECORD = {0, 1, 2, 8, 13, 14, CONFINE, LAST_REQUEST}
 
 # The calls that number 22 accepts: these, and a send or receive of mach_msg that is one attempt.
 MAY_BE_NUMBERED = {3, 4, 5, 6, 7, 9, 10, 11, 12, 15, 16, 17, 18, 20}
@@ -389,6 +389,11 @@ class Machine:
 
     def confine(self, _):
         """Confines the connection. The state doesn't change."""
+
+    def last_request(self, space):
+        """Returns the request of the kept reply, and the number of the call in it."""
+        request, reply = self.kept.get(space, (0, bytes(8)))
+        return [request, *struct.unpack_from("<I", reply, 4)]
 
     def names(self, space):
         rows = sorted(self.spaces[space].items())
@@ -764,6 +769,7 @@ CALLS = {
     20: "space_create",
     21: "space_destroy",
     CONFINE: "confine",
+    LAST_REQUEST: "last_request",
 }
 
 

@@ -309,7 +309,7 @@ class Cut(OfTask):
     """A server that closes connections, or sends invalid replies."""
 
     def answered(self, reply):
-        """Starts a server that takes one connection and gives this reply to its first frame."""
+        """Starts a server that takes one connection, attaches it and gives this reply to its next frame."""
         folder = tempfile.TemporaryDirectory(dir="/tmp")
         self.addCleanup(folder.cleanup)
         path = f"{folder.name}/socket"
@@ -319,8 +319,9 @@ class Cut(OfTask):
 
         def serve():
             with contextlib.closing(listener), listener.accept()[0] as peer:
-                peer.recv(1 << 16)
-                peer.sendall(reply)
+                for answer in (struct.pack("<3I", 8, 0, 0), reply):
+                    peer.recv(1 << 16)
+                    peer.sendall(answer)
 
         thread = threading.Thread(target=serve)
         thread.start()
@@ -358,7 +359,24 @@ class Cut(OfTask):
 
     def test_no_server(self):
         with self.assertRaises(MACH_SEND_INTERRUPTED):
-            Task("/nowhere/at/all")
+            Task("/nowhere/at/all:/nor/here")
+
+
+class Paths(unittest.TestCase):
+    def test_lists(self):
+        for text in ("", ":", "/a:", "/a::/b", "/a\\x", "/a\\", "/1:/2:/3:/4:/5", "/" + 107 * "a"):
+            with self.subTest(text=text), self.assertRaises(KERN_INVALID_ARGUMENT):
+                Task(text)
+
+    def test_escapes(self):
+        with tempfile.TemporaryDirectory(prefix="a:b\\", dir="/tmp") as folder:
+            path = f"{folder}/socket"
+            os.symlink(SOCKET, path)
+            escaped = path.replace("\\", "\\\\").replace(":", "\\:")
+            for text in (escaped, f"/nowhere:{escaped}"):
+                Task(text).close()
+            with self.assertRaises(KERN_INVALID_ARGUMENT):
+                Task(path)
 
 
 class Once(OfTask):

@@ -29,11 +29,16 @@ typedef uint32_t machipc_space_t;
 #define MACHIPC_FIRST_SPACE ((machipc_space_t) 1)
 
 /*
- * Uses the server whose socket is at `path`, in the first space, and connects the calling thread.
- * KERN_INVALID_ARGUMENT: no path, or one that is too long for a socket; MACH_SEND_INTERRUPTED: no server listens there
+ * Uses the server whose socket is at `paths`, in the first space, and connects the calling thread.
+ *
+ * `paths` is a path, or a list of up to four: PATH1:PATH2. In a path a `:` is written `\:`, and a backslash `\\`. The
+ * first path that leads to a server counts: the server has to answer within 3 seconds, since a proxy accepts connections
+ * for a server that is gone. Each later connection tries the path first that answered last.
+ *
+ * KERN_INVALID_ARGUMENT: no such list, or a path that is too long for a socket; MACH_SEND_INTERRUPTED: no server answers
  * (see errno); KERN_RESOURCE_SHORTAGE: out of memory.
  */
-kern_return_t machipc_connect(const char *path);
+kern_return_t machipc_connect(const char *paths);
 
 /*
  * Uses this space from now on, in all threads. Any space may be attached to, and any number of connections may use one
@@ -89,6 +94,10 @@ kern_return_t machipc_once(machipc_space_t space);
  * Sets the milliseconds for which a call in the mode of machipc_once tries to reach the server after a loss, before it
  * fails with MACH_SEND_INTERRUPTED or MACH_RCV_INTERRUPTED. The default is 30,000, and 0xffffffff means forever. A call
  * that failed like this may or may not have been made.
+ *
+ * In each mode the server has to answer a call within a third of this time (3 to 10 seconds), and a call that waits for a
+ * message or for room is made again so often. A later answer is a loss, as over a path that is cut. So a receive without
+ * a timeout notices a cut within two thirds of the patience.
  */
 void machipc_set_patience(uint32_t milliseconds);
 
@@ -152,7 +161,7 @@ kern_return_t machipc_task_begin(mach_port_t name, mach_msg_type_name_t disposit
 kern_return_t machipc_task_end(const machipc_task_t *task);
 
 /*
- * Puts a task and the server's socket into the environment (MACHIPC_SOCKET, MACHIPC_SPACE, MACHIPC_BOOTSTRAP,
+ * Puts a task and the server's paths into the environment (MACHIPC_SOCKET, MACHIPC_SPACE, MACHIPC_BOOTSTRAP,
  * MACHIPC_START; MACHIPC_FD is removed), where a started program finds them. KERN_RESOURCE_SHORTAGE: out of memory;
  * KERN_NO_ACCESS: the process knows no socket, because machrun gave it its connections. It changes the environment,
  * which no other thread may use meanwhile.

@@ -4,7 +4,6 @@
 
 #include "brokered.h"
 #include "call.h"
-#include "frame.h"
 
 #include <errno.h>
 #include <fcntl.h>
@@ -14,16 +13,14 @@
 #include <string.h>
 #include <sys/prctl.h>
 #include <sys/socket.h>
-#include <sys/time.h>
 #include <sys/uio.h>
 #include <sys/un.h>
 #include <sys/wait.h>
 #include <time.h>
 #include <unistd.h>
 
-/* The seconds that the server has for each step of a connection, and the seconds after which a request that isn't
-   finished ends its worker. */
-enum { STEP_SECONDS = 3, REQUEST_SECONDS = 15 };
+/* The seconds after which a request that isn't finished ends its worker: more than all paths together have. */
+enum { REQUEST_SECONDS = PATHS_MOST * PATHS_TIME / 1000 + 3 };
 
 /* The milliseconds between a worker's end and the start of the next one, and the longest that broker_end waits for the
    broker's end. */
@@ -124,63 +121,58 @@ static bool answer(int asked, unsigned char byte, int given) {
 
 /* Connections. */
 
-static void limit(int made, int seconds) {
-    struct timeval time = {.tv_sec = seconds};
-    setsockopt(made, SOL_SOCKET, SO_RCVTIMEO, &time, sizeof time);
-    setsockopt(made, SOL_SOCKET, SO_SNDTIMEO, &time, sizeof time);
-}
-
-/* Makes a call that has at most one argument. Returns its code, or BROKERED_LATER if the server doesn't answer. */
-static uint32_t call(int made, uint32_t number, const uint32_t *argument) {
+/* Connects to the server at a path, attaches the connection to the command's space and confines it there. The space's
+   number may belong to another space by now, so the connection is given to the command only if its space has the name by
+   which machrun knows the command's space. */
+static kern_return_t enter(int made, const struct broker *broker, const char *path) {
     static struct frame frame;
-    frame_begin(&frame, number);
-    if (argument != NULL) {
-        frame_put(&frame, *argument);
+    struct clock_wait wait = clock_wait_for(PATHS_TIME);
+    if (!paths_connect(made, path, &wait)) {
+        return MACH_SEND_INTERRUPTED;
     }
-    if (!frame_send(&frame, made) || !frame_receive(&frame, made)) {
-        return BROKERED_LATER;
-    }
-    uint32_t found = frame_take(&frame), code = frame_take(&frame);
-    return frame.is_bad || found != number || code >= BROKERED_LATER ? BROKERED_LATER : code;
-}
-
-/* Attaches a new connection to the command's space and confines it there. The space's number may belong to another
-   space by now, so the connection is given to the command only if its space has the name by which machrun knows the
-   command's space. */
-static uint32_t enter(int made, const struct broker *broker) {
-    uint32_t code = call(made, CALL_ATTACH, &broker->space);
+    kern_return_t code = paths_call(made, &frame, &wait, CALL_ATTACH, &broker->space, 1);
     if (code == KERN_SUCCESS) {
-        code = call(made, CALL_CONFINE, NULL);
+        code = paths_call(made, &frame, &wait, CALL_CONFINE, NULL, 0);
     }
     if (code == KERN_SUCCESS) {
-        code = call(made, CALL_TYPE, &broker->name);
+        code = paths_call(made, &frame, &wait, CALL_TYPE, &broker->name, 1);
         code = code == KERN_INVALID_NAME ? KERN_INVALID_TASK : code;
     }
     return code;
 }
 
-static bool connect_to(int made, const char *path) {
-    struct sockaddr_un address = {.sun_family = AF_UNIX};
-    if (strlen(path) >= sizeof address.sun_path) {
-        return false;
+/* Makes a connection by the first path that leads to a server, beginning with the one that did so last. Returns its
+   descriptor, or -1; and the code. */
+static int connect_by_any(const struct broker *broker, kern_return_t *code) {
+    static size_t first;
+    for (size_t i = 0; i < broker->paths->count; i++) {
+        size_t place = (first + i) % broker->paths->count;
+        int made = socket(AF_UNIX, SOCK_STREAM | SOCK_CLOEXEC | SOCK_NONBLOCK, 0);
+        *code = made >= 0 ? enter(made, broker, broker->paths->each[place]) : MACH_SEND_INTERRUPTED;
+        if (*code != MACH_SEND_INTERRUPTED) {
+            first = place;
+            return made;
+        }
+        if (made >= 0) {
+            close(made);
+        }
     }
-    memcpy(address.sun_path, path, strlen(path) + 1);
-    return connect(made, (struct sockaddr *) &address, sizeof address) == 0;
+    return -1;
 }
 
 static void serve(int asked, const struct broker *broker) {
     if (!is_of_pair(asked) || !is_awaited(asked)) {
         return;
     }
-    uint32_t code = BROKERED_LATER;
-    int made = socket(AF_UNIX, SOCK_STREAM | SOCK_CLOEXEC, 0);
-    if (made >= 0) {
-        limit(made, STEP_SECONDS);
-        code = connect_to(made, broker->socket) ? enter(made, broker) : BROKERED_LATER;
-        limit(made, 0);
+    kern_return_t code = MACH_SEND_INTERRUPTED;
+    int made = connect_by_any(broker, &code);
+    /* Clients of all versions want a descriptor that blocks. */
+    if (code == KERN_SUCCESS && (fcntl(made, F_SETFL, 0) != 0 || !answer(asked, BROKERED_GIVEN, made))) {
+        code = MACH_SEND_INTERRUPTED;
     }
-    if (code != KERN_SUCCESS || !answer(asked, BROKERED_GIVEN, made)) {
-        answer(asked, code == KERN_SUCCESS ? BROKERED_LATER : (unsigned char) code, -1);
+    if (code != KERN_SUCCESS) {
+        bool is_told = code > 0 && code < BROKERED_LATER;
+        answer(asked, is_told ? (unsigned char) code : BROKERED_LATER, -1);
     }
     if (made >= 0) {
         close(made);

@@ -38,20 +38,49 @@ static void fail(const char *what) {
     _exit(FAILED);
 }
 
-bool child_find_socket(struct child *child) {
-    bool is_found = realpath(child->socket, child->found) != NULL;
-    if (!is_found) {
-        child->found[0] = '\0';
+/* Finds a path without symbolic links. Without a socket there, it finds where the folder is. Returns true if there is a
+   socket. */
+static bool find(const char *path, char *found) {
+    if (realpath(path, found) != NULL) {
+        return true;
     }
-    return is_found;
+    char folder[PATHS_SIZE + 2], real[PATH_MAX];
+    snprintf(folder, sizeof folder, "%s%s", path[0] == '/' ? "" : "./", path);
+    char *slash = strrchr(folder, '/');
+    *slash = '\0';
+    bool is_folder = realpath(slash == folder ? "/" : folder, real) != NULL;
+    if (!is_folder || snprintf(found, PATH_MAX, "%s/%s", real, slash + 1) >= PATH_MAX) {
+        found[0] = '\0';
+    }
+    return false;
 }
 
-/* Returns true if the folder contains nothing but the socket, so that hiding it hides nothing else. */
-static bool has_only(const char *folder, const char *name) {
+bool child_find_sockets(struct child *child) {
+    bool is_any = false;
+    for (size_t i = 0; i < child->paths.count; i++) {
+        is_any = find(child->paths.each[i], child->found[i]) || is_any;
+    }
+    return is_any;
+}
+
+/* Returns true if a folder's entry is one of the sockets, or the folder or its parent. */
+static bool is_expected(const struct child *child, const char *folder, const char *name) {
+    size_t length = strlen(folder);
+    bool is_known = strcmp(name, ".") == 0 || strcmp(name, "..") == 0;
+    for (size_t i = 0; i < child->paths.count; i++) {
+        const char *found = child->found[i];
+        bool is_here = strncmp(found, folder, length) == 0 && found[length] == '/';
+        is_known = is_known || (is_here && strcmp(found + length + 1, name) == 0);
+    }
+    return is_known;
+}
+
+/* Returns true if the folder contains nothing but sockets of the server, so that hiding it hides nothing else. */
+static bool has_only(const struct child *child, const char *folder) {
     DIR *opened = opendir(folder);
     bool is_only = opened != NULL;
     for (struct dirent *it; is_only && (it = readdir(opened)) != NULL;) {
-        is_only = strcmp(it->d_name, ".") == 0 || strcmp(it->d_name, "..") == 0 || strcmp(it->d_name, name) == 0;
+        is_only = is_expected(child, folder, it->d_name);
     }
     if (opened != NULL) {
         closedir(opened);
@@ -64,7 +93,7 @@ static bool has_only(const char *folder, const char *name) {
  * itself wouldn't do: a server that is started again makes a new socket, and the mount would disappear with the old
  * one.
  */
-static bool hide(const char *found) {
+static bool hide(const struct child *child, const char *found) {
     char folder[PATH_MAX], here[PATH_MAX];
     strcpy(folder, found);
     char *slash = strrchr(folder, '/');
@@ -72,7 +101,7 @@ static bool hide(const char *found) {
         return false;
     }
     *slash = '\0';
-    if (!has_only(folder, slash + 1)) {
+    if (!has_only(child, folder)) {
         return false;
     }
     bool has_here = getcwd(here, sizeof here) != NULL;
@@ -92,17 +121,23 @@ static void become_user(const struct child *child) {
     }
 }
 
-/* Removes the ways by which the command could reach the socket, and prints a warning if it can still be opened.
-   Programs that run with a user or a group of their own (setuid) would be such a way. */
+/* Removes the ways by which the command could reach the sockets, and prints a warning if one can still be opened, or may
+   appear where it isn't hidden. Programs that run with a user or a group of their own (setuid) would be such a way. */
 static void confine(const struct child *child) {
     bool was_root = geteuid() == 0;
-    bool is_hidden = was_root && hide(child->found);
+    bool is_hidden[PATHS_MOST];
+    for (size_t i = 0; i < child->paths.count; i++) {
+        is_hidden[i] = was_root && hide(child, child->found[i]);
+    }
     become_user(child);
     if (prctl(PR_SET_NO_NEW_PRIVS, 1, 0, 0, 0) != 0) {
         fail("no new privileges");
     }
-    if (was_root && !is_hidden && access(child->socket, W_OK) == 0) {
-        fprintf(stderr, "machrun: %s can't be hidden, and the command may open it\n", child->socket);
+    for (size_t i = 0; was_root && i < child->paths.count; i++) {
+        const char *path = child->paths.each[i];
+        if (!is_hidden[i] && (access(path, W_OK) == 0 || errno == ENOENT)) {
+            fprintf(stderr, "machrun: %s can't be hidden, and the command may open it\n", path);
+        }
     }
 }
 

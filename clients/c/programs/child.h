@@ -3,6 +3,8 @@
 #ifndef MACHRUN_CHILD_H
 #define MACHRUN_CHILD_H
 
+#include "paths.h"
+
 #include <limits.h>
 #include <stdbool.h>
 #include <sys/types.h>
@@ -12,9 +14,9 @@ enum { FAILED = 125, NOT_RUN = 126, NOT_FOUND = 127 };
 
 struct child {
     char **words;
-    const char *socket;
-    char found[PATH_MAX]; /* the same path without symbolic links, or empty */
-    const char *user;     /* NULL for machrun's own user */
+    struct paths paths;
+    char found[PATHS_MOST][PATH_MAX]; /* the same paths without symbolic links; empty: there isn't even the folder */
+    const char *user;                 /* NULL for machrun's own user */
     uid_t uid;
     gid_t gid;
     int broker; /* the command's end of the pair, or -1 if the command isn't confined */
@@ -24,9 +26,9 @@ struct child {
    line on standard error says why not. */
 bool child_find_user(struct child *child);
 
-/* Finds the socket's path without symbolic links, so that it can be hidden. Returns false if there is no socket, as
+/* Finds the sockets' paths without symbolic links, so that they can be hidden. Returns false if there is no socket, as
    happens for a moment while a server is started again. */
-bool child_find_socket(struct child *child);
+bool child_find_sockets(struct child *child);
 
 /* Becomes the command, or ends with one of the statuses above. */
 void child_run(const struct child *child);

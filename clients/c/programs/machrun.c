@@ -33,6 +33,7 @@
 static const char usage[] =
     "machrun [--keep] [--open] [--adopt] [--user NAME] SOCKET COMMAND..\n"
     "Makes a space on the server at SOCKET, runs the command confined to it, and destroys it when the command has ended.\n"
+    "SOCKET is a path, or PATH1:PATH2: the first that leads to the server.\n"
     "With --keep a command that fails is started again in the same space, with --open it isn't confined, and with --user it\n"
     "runs as that user. With --adopt it gets the space that the environment names, which stays.\n";
 
@@ -251,12 +252,13 @@ static void pause_after(time_t began) {
 struct options {
     bool is_kept;
     bool is_open;
-    bool is_adopted; /* the space is the one that the environment names */
+    bool is_adopted;    /* the space is the one that the environment names */
+    const char *socket; /* the list of paths */
     struct child child;
 };
 
 static int run(struct options *options, machipc_task_t *task) {
-    struct broker broker = {options->child.socket, task->space, task->bootstrap, -1, 0};
+    struct broker broker = {&options->child.paths, task->space, task->bootstrap, -1, 0};
     for (;;) {
         time_t began = time(NULL);
         if (machipc_task_export(task) != KERN_SUCCESS) {
@@ -291,10 +293,10 @@ static bool read_options(char **words, struct options *options) {
             return false;
         }
     }
-    if (words[0] == NULL || words[1] == NULL) {
+    if (words[0] == NULL || words[1] == NULL || !paths_read(&options->child.paths, words[0])) {
         return false;
     }
-    options->child.socket = words[0];
+    options->socket = words[0];
     options->child.words = words + 1;
     return true;
 }
@@ -305,8 +307,8 @@ static bool is_possible(struct options *options) {
         fprintf(stderr, "machrun: MACHIPC_FD is set: a confined task can't start tasks (machrun --open runs one that can)\n");
         return false;
     }
-    if (options->is_adopted && !has_task(options->child.socket)) {
-        fprintf(stderr, "machrun: --adopt: the environment has no task on %s\n", options->child.socket);
+    if (options->is_adopted && !has_task(options->socket)) {
+        fprintf(stderr, "machrun: --adopt: the environment has no task on %s\n", options->socket);
         return false;
     }
     return child_find_user(&options->child);
@@ -315,11 +317,11 @@ static bool is_possible(struct options *options) {
 /* Makes the command's space, runs the command and destroys the space. Returns machrun's status. */
 static int run_in_space(struct options *options) {
     machipc_task_t task;
-    kern_return_t code = begin(options->child.socket, options->is_adopted, &task);
+    kern_return_t code = begin(options->socket, options->is_adopted, &task);
     if (code != KERN_SUCCESS) {
         return fail("no space", code);
     }
-    for (int i = 0; i < TRIES && !child_find_socket(&options->child) && !was_stopped; i++) {
+    for (int i = 0; i < TRIES && !child_find_sockets(&options->child) && !was_stopped; i++) {
         sleep_for(PAUSE);
     }
     if (options->is_adopted) {

@@ -1,7 +1,5 @@
 #include "brokered.h"
 
-#include "clock.h"
-
 #include <errno.h>
 #include <poll.h>
 #include <string.h>
@@ -9,7 +7,7 @@
 #include <sys/uio.h>
 #include <unistd.h>
 
-/* Milliseconds to wait for a reply. machrun gives each within a few seconds, whatever the server does. */
+/* Milliseconds to wait for a reply. machrun gives each within 15 seconds, whatever the server does. */
 enum { BROKER_PATIENCE = 20000 };
 
 /* A message of one byte, with room for a descriptor. */
@@ -84,16 +82,6 @@ static bool may_go_on(int error) {
     return error == EAGAIN || error == EINTR || error == ETOOMANYREFS || error == ENOBUFS;
 }
 
-/* Waits for a reply. Returns true if there is one, or none can come any more. */
-static bool await(int socket, const struct clock_wait *wait) {
-    struct pollfd polled = {.fd = socket, .events = POLLIN};
-    int found;
-    do {
-        found = poll(&polled, 1, (int) clock_wait_left(wait));
-    } while (found < 0 && errno == EINTR);
-    return found > 0;
-}
-
 /* Returns the reply's descriptor, or -1. */
 static int descriptor_of(struct letter *letter) {
     struct cmsghdr *control = CMSG_FIRSTHDR(&letter->head);
@@ -137,8 +125,7 @@ kern_return_t brokered_open(struct connection *connection, int broker) {
             return MACH_SEND_INTERRUPTED;
         }
     }
-    if (!await(connection->socket, &wait)) {
-        errno = ETIMEDOUT;
+    if (!frame_await(connection->socket, POLLIN, &wait)) {
         return MACH_SEND_INTERRUPTED;
     }
     return take(connection);

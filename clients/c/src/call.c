@@ -37,7 +37,7 @@ static kern_return_t exchange_repeated(struct connection *connection, const stru
     struct clock_wait patience = clock_wait_for(settings->patience);
     bool was_out = false;
     for (bool is_again = false;; is_again = true) {
-        kern_return_t code = connection_exchange(connection, settings);
+        kern_return_t code = connection_exchange(connection, settings, 0);
         if (!call_was_cut(code)) {
             if (is_again) {
                 call_count_repeat();
@@ -61,7 +61,7 @@ kern_return_t call_make(struct connection *connection, const struct settings *se
         return numbered_has(number) ? numbered_make(connection, settings, number)
                                     : call_repeated(connection, settings, number);
     }
-    kern_return_t code = connection_exchange(connection, settings);
+    kern_return_t code = connection_exchange(connection, settings, 0);
     return code == KERN_SUCCESS ? call_read(connection, number) : code;
 }
 

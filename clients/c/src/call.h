@@ -31,7 +31,8 @@ enum {
     CALL_SPACE_CREATE = 20,
     CALL_SPACE_DESTROY = 21,
     CALL_NUMBERED = 22,
-    CALL_CONFINE = 23
+    CALL_CONFINE = 23,
+    CALL_LAST_REQUEST = 24
 };
 
 /* Returns true if the code says that the connection was lost, or that there is none. */

@@ -5,59 +5,43 @@
 #include "settings.h"
 
 #include <errno.h>
-#include <string.h>
-#include <sys/socket.h>
-#include <sys/un.h>
+#include <stdatomic.h>
 
-/* Connects the connection's new socket to the server at a path. Returns true on success; otherwise see errno. */
-static bool connect_to(struct connection *connection, const char *path) {
-    struct sockaddr_un address = {.sun_family = AF_UNIX};
-    if (!settings_fits(path)) {
-        errno = ENOENT;
-        return false;
-    }
-    memcpy(address.sun_path, path, strlen(path) + 1);
-    if (!connection_make_socket(connection)) {
-        return false;
-    }
-    /* A connect that a signal interrupts continues by itself, and a second connect then reports that it is
-       connected. */
-    while (connect(connection->socket, (struct sockaddr *) &address, sizeof address) != 0 && errno != EISCONN) {
-        if (errno != EINTR && errno != EALREADY) {
-            return false;
-        }
-    }
-    return true;
-}
+/* The place in the list of the path that answered last. It is tried first. */
+static atomic_size_t place_of_last;
 
-/* Makes the call in the reply's frame, because the call's frame may hold a call that is repeated. */
-static kern_return_t ask(struct connection *connection, uint32_t number) {
-    struct frame *frame = &connection->reply;
-    if (!frame_send(frame, connection->socket) || !frame_receive(frame, connection->socket)) {
+/* Connects the connection to the server at a path, and takes it to the settings' space. A server that accepts and doesn't
+   answer isn't ready, or isn't reached: a proxy accepts for a server that is gone. */
+static kern_return_t enter(struct connection *connection, const struct settings *settings, const char *path) {
+    struct clock_wait wait = clock_wait_for(PATHS_TIME);
+    struct frame *frame = &connection->reply; /* the call's frame may hold a call that is repeated */
+    connection_close(connection);
+    if (!connection_make_socket(connection) || !paths_connect(connection->socket, path, &wait)) {
         return MACH_SEND_INTERRUPTED;
     }
-    uint32_t found = frame_take(frame);
-    uint32_t code = frame_take(frame);
-    return frame->is_bad || found != number ? MIG_REPLY_MISMATCH : (kern_return_t) code;
-}
-
-/* Attaches the new socket to the settings' space, and confines it if the process is confined. */
-static kern_return_t enter(struct connection *connection, const struct settings *settings) {
-    kern_return_t code = KERN_SUCCESS;
-    if (settings->space != MACHIPC_FIRST_SPACE) {
-        frame_begin(&connection->reply, CALL_ATTACH);
-        frame_put(&connection->reply, settings->space);
-        code = ask(connection, CALL_ATTACH);
-    }
+    kern_return_t code = paths_call(connection->socket, frame, &wait, CALL_ATTACH, &settings->space, 1);
     if (code == KERN_SUCCESS && settings->is_confined) {
-        frame_begin(&connection->reply, CALL_CONFINE);
-        code = ask(connection, CALL_CONFINE);
+        code = paths_call(connection->socket, frame, &wait, CALL_CONFINE, NULL, 0);
     }
     return code;
 }
 
-static kern_return_t connect_and_enter(struct connection *connection, const struct settings *settings) {
-    return connect_to(connection, settings->path) ? enter(connection, settings) : MACH_SEND_INTERRUPTED;
+static kern_return_t enter_by_any(struct connection *connection, const struct settings *settings) {
+    struct paths paths;
+    if (!paths_read(&paths, settings->paths)) {
+        errno = ENOENT;
+        return MACH_SEND_INTERRUPTED;
+    }
+    size_t first = atomic_load(&place_of_last);
+    kern_return_t code = MACH_SEND_INTERRUPTED;
+    for (size_t i = 0; i < paths.count && code == MACH_SEND_INTERRUPTED; i++) {
+        size_t place = (first + i) % paths.count;
+        code = enter(connection, settings, paths.each[place]);
+        if (code != MACH_SEND_INTERRUPTED) {
+            atomic_store(&place_of_last, place);
+        }
+    }
+    return code;
 }
 
 kern_return_t connection_open(struct connection *connection, const struct settings *settings) {
@@ -70,7 +54,7 @@ kern_return_t connection_open(struct connection *connection, const struct settin
     connection_close(connection);
     connection->generation = settings->generation;
     kern_return_t code =
-        settings->broker >= 0 ? brokered_open(connection, settings->broker) : connect_and_enter(connection, settings);
+        settings->broker >= 0 ? brokered_open(connection, settings->broker) : enter_by_any(connection, settings);
     if (code != KERN_SUCCESS) {
         int error = errno;
         connection_close(connection);
@@ -79,16 +63,17 @@ kern_return_t connection_open(struct connection *connection, const struct settin
     return code;
 }
 
-kern_return_t connection_exchange(struct connection *connection, const struct settings *settings) {
+kern_return_t connection_exchange(struct connection *connection, const struct settings *settings, uint32_t wait) {
     kern_return_t code = connection_open(connection, settings);
     if (code != KERN_SUCCESS) {
         return code;
     }
-    if (!frame_send(&connection->call, connection->socket)) {
+    struct clock_wait answer = clock_wait_for(wait + settings_answer_time(settings));
+    if (!frame_send(&connection->call, connection->socket, &answer)) {
         connection_close(connection);
         return MACH_SEND_INTERRUPTED;
     }
-    if (!frame_receive(&connection->reply, connection->socket)) {
+    if (!frame_receive(&connection->reply, connection->socket, &answer)) {
         connection_close(connection);
         return MACH_RCV_INTERRUPTED;
     }

@@ -28,12 +28,17 @@ static void close_descriptor(int *descriptor) {
     }
 }
 
+void connection_close_events(struct connection *connection) {
+    close_descriptor(&connection->events);
+    close_descriptor(&connection->timer);
+}
+
 /* If a child kept its parent's sockets open, calls of the parent that should end with it would keep waiting, and the
    server might give one of them a message. */
 static void after_fork_in_child(void) {
     for (struct connection *it = first; it != NULL; it = it->next) {
         close_descriptor(&it->socket);
-        close_descriptor(&it->events);
+        connection_close_events(it);
     }
     pthread_mutex_unlock(&lock);
 }
@@ -59,6 +64,7 @@ struct connection *connection_new(void) {
     if (made != NULL) {
         made->socket = -1;
         made->events = -1;
+        made->timer = -1;
         pthread_mutex_lock(&lock);
         made->next = first;
         first = made;
@@ -73,7 +79,7 @@ void connection_free(struct connection *connection) {
     }
     connection_close(connection);
     pthread_mutex_lock(&lock);
-    close_descriptor(&connection->events);
+    connection_close_events(connection);
     struct connection **place = &first;
     while (*place != connection) {
         place = &(*place)->next;
@@ -109,7 +115,7 @@ void connection_release_forks(void) {
 
 bool connection_make_socket(struct connection *connection) {
     pthread_mutex_lock(&lock);
-    connection->socket = socket(AF_UNIX, SOCK_STREAM | SOCK_CLOEXEC, 0);
+    connection->socket = socket(AF_UNIX, SOCK_STREAM | SOCK_CLOEXEC | SOCK_NONBLOCK, 0);
     bool is_made = connection->socket >= 0;
     pthread_mutex_unlock(&lock);
     return is_made;

@@ -1,6 +1,7 @@
 #include "frame.h"
 
 #include <errno.h>
+#include <poll.h>
 #include <string.h>
 #include <sys/socket.h>
 #include <sys/types.h>
@@ -69,52 +70,85 @@ const unsigned char *frame_rest(const struct frame *frame) {
     return frame->bytes + PREFIX + frame->place;
 }
 
-/* Signals interrupt neither of these two, and a peer that disconnected raises none. */
+bool frame_await(int socket, short event, const struct clock_wait *wait) {
+    struct pollfd polled = {.fd = socket, .events = event};
+    int found;
+    do {
+        found = poll(&polled, 1, (int) clock_wait_left(wait));
+    } while (found < 0 && errno == EINTR);
+    if (found == 0) {
+        errno = ETIMEDOUT;
+    }
+    return found > 0;
+}
 
-static bool send_all(int socket, const unsigned char *bytes, size_t count) {
+/* Signals interrupt neither sending nor receiving, and a peer that disconnected raises none. */
+
+static bool send_all(int socket, const unsigned char *bytes, size_t count, const struct clock_wait *wait) {
     while (count > 0) {
-        ssize_t sent = send(socket, bytes, count, MSG_NOSIGNAL);
-        if (sent < 0 && errno != EINTR) {
-            return false;
-        }
+        ssize_t sent = send(socket, bytes, count, MSG_NOSIGNAL | MSG_DONTWAIT);
         if (sent > 0) {
             bytes += sent;
             count -= (size_t) sent;
+            continue;
         }
-    }
-    return true;
-}
-
-static bool receive_all(int socket, unsigned char *bytes, size_t count) {
-    while (count > 0) {
-        ssize_t received = recv(socket, bytes, count, 0);
-        if (received == 0 || (received < 0 && errno != EINTR)) {
+        if (errno == EAGAIN && frame_await(socket, POLLOUT, wait)) {
+            continue;
+        }
+        if (errno != EINTR) {
             return false;
         }
-        if (received > 0) {
-            bytes += received;
-            count -= (size_t) received;
-        }
     }
     return true;
 }
 
-bool frame_send(struct frame *frame, int socket) {
+bool frame_send(struct frame *frame, int socket, const struct clock_wait *wait) {
     write_word(frame->bytes, (uint32_t) frame->length);
-    return send_all(socket, frame->bytes, PREFIX + frame->length);
+    return send_all(socket, frame->bytes, PREFIX + frame->length, wait);
 }
 
-bool frame_receive(struct frame *frame, int socket) {
+/* Reads what has come, or comes in time. Returns the number of bytes, or 0 if there are none. */
+static size_t receive_some(int socket, unsigned char *bytes, size_t room, const struct clock_wait *wait) {
+    while (frame_await(socket, POLLIN, wait)) {
+        ssize_t received = recv(socket, bytes, room, MSG_DONTWAIT);
+        if (received > 0) {
+            return (size_t) received;
+        }
+        if (received == 0) {
+            errno = ECONNRESET;
+            return 0;
+        }
+        if (errno != EINTR && errno != EAGAIN) {
+            return 0;
+        }
+    }
+    return 0;
+}
+
+/* The peer sends one frame and then waits for the next call, so nothing is read beyond the frame. */
+bool frame_receive(struct frame *frame, int socket, const struct clock_wait *wait) {
+    size_t count = 0, wanted = PREFIX;
     frame->length = 0;
     frame->place = 0;
     frame->is_bad = false;
-    if (!receive_all(socket, frame->bytes, PREFIX)) {
+    while (count < wanted) {
+        size_t received = receive_some(socket, frame->bytes + count, sizeof frame->bytes - count, wait);
+        if (received == 0) {
+            return false;
+        }
+        count += received;
+        if (count >= PREFIX) {
+            wanted = PREFIX + read_word(frame->bytes);
+        }
+        if (count > wanted || wanted > sizeof frame->bytes) {
+            errno = EPROTO;
+            return false;
+        }
+    }
+    if (wanted < PREFIX + 4) {
+        errno = EPROTO;
         return false;
     }
-    size_t length = read_word(frame->bytes);
-    if (length < 4 || length > FRAME_LONGEST || !receive_all(socket, frame->bytes + PREFIX, length)) {
-        return false;
-    }
-    frame->length = length;
+    frame->length = wanted - PREFIX;
     return true;
 }

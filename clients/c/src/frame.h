@@ -6,6 +6,8 @@
 #ifndef MACHIPC_FRAME_H
 #define MACHIPC_FRAME_H
 
+#include "clock.h"
+
 #include <stdbool.h>
 #include <stddef.h>
 #include <stdint.h>
@@ -40,9 +42,12 @@ uint32_t frame_take(struct frame *frame);
 size_t frame_left(const struct frame *frame);
 const unsigned char *frame_rest(const struct frame *frame);
 
-/* Write the frame to a socket, and read one from it. Both return true on success; otherwise the socket can't be used
-   any more. */
-bool frame_send(struct frame *frame, int socket);
-bool frame_receive(struct frame *frame, int socket);
+/* Waits until a socket can be read (POLLIN) or written (POLLOUT), or has ended. Returns false if the timeout expired. */
+bool frame_await(int socket, short event, const struct clock_wait *wait);
+
+/* Write the frame to a socket, and read one from it, within a timeout. Both return true on success; otherwise see errno,
+   and the socket can't be used any more. */
+bool frame_send(struct frame *frame, int socket, const struct clock_wait *wait);
+bool frame_receive(struct frame *frame, int socket, const struct clock_wait *wait);
 
 #endif

@@ -1,6 +1,7 @@
 #include "message.h"
 
 #include "call.h"
+#include "clock.h"
 
 #include <stddef.h>
 #include <string.h>
@@ -63,18 +64,68 @@ static mach_msg_return_t interrupted(mach_msg_option_t option, kern_return_t cod
     return option & MACH_SEND_MSG ? code : MACH_RCV_INTERRUPTED;
 }
 
-static mach_msg_return_t message_plain(struct connection *connection, const struct settings *settings,
-                                       const struct message_call *call) {
-    message_frame(connection, call);
+#define BOTH (MACH_SEND_MSG | MACH_RCV_MSG)
+#define TIMEOUTS (MACH_SEND_TIMEOUT | MACH_RCV_TIMEOUT)
+
+/* Makes a call whose halves all have a timeout. */
+static mach_msg_return_t message_part(struct connection *connection, const struct settings *settings,
+                                      const struct message_call *part) {
+    message_frame(connection, part);
     if (connection->call.is_bad) {
         return MACH_SEND_NO_BUFFER;
     }
-    kern_return_t code = connection_exchange(connection, settings);
+    uint32_t halves = (part->option & BOTH) == BOTH ? 2 : 1;
+    kern_return_t code = connection_exchange(connection, settings, halves * part->timeout);
     if (code != KERN_SUCCESS) {
-        return call_was_cut(code) ? interrupted(call->option, code) : code;
+        return call_was_cut(code) ? interrupted(part->option, code) : code;
     }
     code = call_read(connection, CALL_MACH_MSG);
-    return code == MIG_REPLY_MISMATCH ? code : message_result(connection, call, code);
+    return code == MIG_REPLY_MISMATCH ? code : message_result(connection, part, code);
+}
+
+/* Makes a call of which each half has this timeout. A long wait is made in parts, so that the server has to answer each:
+   over a path that is cut no answer comes. */
+static mach_msg_return_t message_in_parts(struct connection *connection, const struct settings *settings,
+                                          const struct message_call *call, mach_msg_timeout_t timeout) {
+    struct message_call part = *call;
+    struct clock_wait wait = clock_wait_for(timeout);
+    uint32_t longest = settings_answer_time(settings);
+    part.option |= TIMEOUTS;
+    for (;;) {
+        uint32_t left = clock_wait_left(&wait);
+        part.timeout = left < longest ? left : longest;
+        mach_msg_return_t code = message_part(connection, settings, &part);
+        if (code == MACH_RCV_TIMED_OUT && (part.option & MACH_SEND_MSG)) {
+            part.option &= ~MACH_SEND_MSG; /* the receive has begun with this part */
+            wait = clock_wait_for(timeout == CLOCK_FOR_EVER ? timeout : timeout - part.timeout);
+        }
+        bool is_over = clock_wait_left(&wait) == 0;
+        if (is_over || (code != MACH_SEND_TIMED_OUT && code != MACH_RCV_TIMED_OUT)) {
+            return code;
+        }
+    }
+}
+
+/* Returns the timeout of a half, whose option this is. */
+static mach_msg_timeout_t timeout_of(const struct message_call *call, mach_msg_option_t limited) {
+    return call->option & limited ? call->timeout : CLOCK_FOR_EVER;
+}
+
+static mach_msg_return_t message_plain(struct connection *connection, const struct settings *settings,
+                                       const struct message_call *call) {
+    mach_msg_timeout_t of_send = timeout_of(call, MACH_SEND_TIMEOUT);
+    mach_msg_timeout_t of_receive = timeout_of(call, MACH_RCV_TIMEOUT);
+    struct message_call half = *call;
+    if (!(call->option & MACH_SEND_MSG) || of_send == of_receive) {
+        return message_in_parts(connection, settings, call, of_receive);
+    }
+    half.option &= ~MACH_RCV_MSG;
+    mach_msg_return_t code = message_in_parts(connection, settings, &half, of_send);
+    if (code == MACH_MSG_SUCCESS && (call->option & MACH_RCV_MSG)) {
+        half.option = call->option & ~MACH_SEND_MSG;
+        code = message_in_parts(connection, settings, &half, of_receive);
+    }
+    return code;
 }
 
 mach_msg_return_t mach_msg(mach_msg_header_t *msg, mach_msg_option_t option, mach_msg_size_t send_size,

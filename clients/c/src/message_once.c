@@ -43,26 +43,26 @@ static mach_msg_return_t send_once(struct connection *connection, const struct s
     }
 }
 
-/* Waits until there is a message, and leaves it in the queue. MACH_RCV_TOO_LARGE: there is one. */
+/* Waits until there is a message, and leaves it in the queue, or until the server has to answer all the same.
+   MACH_RCV_TOO_LARGE: there is a message; MACH_RCV_TIMED_OUT: there is none yet. */
 static mach_msg_return_t await(struct connection *connection, const struct settings *settings, const struct message_call *call,
                                const struct clock_wait *wait) {
     mach_msg_header_t nothing;
     struct clock_wait patience = clock_wait_for(settings->patience);
+    uint32_t longest = settings_answer_time(settings);
     for (bool is_again = false;; is_again = true) {
         struct message_call look = {.message = &nothing, .receive_name = call->receive_name};
-        look.option = MACH_RCV_MSG | MACH_RCV_LARGE | (call->option & MACH_RCV_TIMEOUT);
-        look.timeout = clock_wait_left(wait);
+        uint32_t left = clock_wait_left(wait);
+        look.option = MACH_RCV_MSG | MACH_RCV_LARGE | MACH_RCV_TIMEOUT;
+        look.timeout = left < longest ? left : longest;
         message_frame(connection, &look);
-        kern_return_t code = connection_exchange(connection, settings);
+        kern_return_t code = connection_exchange(connection, settings, look.timeout);
         if (is_again && !call_was_cut(code)) {
             call_count_repeat();
         }
         if (code == KERN_SUCCESS) {
             code = call_read(connection, CALL_MACH_MSG);
             return code == MIG_REPLY_MISMATCH ? code : message_result(connection, &look, code);
-        }
-        if (code == MACH_RCV_INTERRUPTED) {
-            patience = clock_wait_for(settings->patience); /* the server was there until now */
         }
         if (!call_was_cut(code) || !clock_wait_pause(&patience)) {
             return call_was_cut(code) ? MACH_RCV_INTERRUPTED : code;
@@ -82,7 +82,7 @@ static mach_msg_return_t receive_once(struct connection *connection, const struc
             return code;
         }
         code = await(connection, settings, call, &wait);
-        if (code != MACH_RCV_TOO_LARGE) {
+        if (code != MACH_RCV_TOO_LARGE && code != MACH_RCV_TIMED_OUT) {
             return code;
         }
         /* Another thread may take the message first; then this one waits again. */

@@ -63,13 +63,16 @@ static kern_return_t is_new(struct connection *connection, const struct settings
     return is_told ? KERN_SUCCESS : answer.own;
 }
 
-/* Finds the greatest number that the space has used, or 0 if there is none. KERN_INVALID_ARGUMENT: all are used, or the
-   server has no such requests. */
-static kern_return_t find_last(struct connection *connection, const struct settings *settings, uint32_t *last) {
+/* Searches for the greatest number that the space has used, on a server that can't be asked for it. KERN_INVALID_ARGUMENT:
+   all are used, or the server has no such requests. */
+static kern_return_t search_last(struct connection *connection, const struct settings *settings, uint32_t *last) {
     bool found;
     kern_return_t code = is_new(connection, settings, UINT32_MAX, &found);
-    if (code != KERN_SUCCESS || !found) {
-        return code != KERN_SUCCESS ? code : KERN_INVALID_ARGUMENT;
+    if (code != KERN_SUCCESS) {
+        return code;
+    }
+    if (!found) {
+        return KERN_INVALID_ARGUMENT;
     }
     uint32_t used = 0, unused = UINT32_MAX;
     while (unused - used > 1) {
@@ -85,7 +88,30 @@ static kern_return_t find_last(struct connection *connection, const struct setti
         }
     }
     *last = used;
-    return used < UINT32_MAX - 1 ? KERN_SUCCESS : KERN_INVALID_ARGUMENT;
+    return KERN_SUCCESS;
+}
+
+/* Asks for the same number. KERN_INVALID_ARGUMENT: the server has an older version. */
+static kern_return_t ask_last(struct connection *connection, const struct settings *settings, uint32_t *last) {
+    frame_begin(&connection->call, CALL_LAST_REQUEST);
+    kern_return_t code = call_repeated(connection, settings, CALL_LAST_REQUEST);
+    if (code != KERN_SUCCESS) {
+        return code;
+    }
+    *last = frame_take(&connection->reply);
+    frame_take(&connection->reply); /* the number of the call in that request */
+    return connection->reply.is_bad || frame_left(&connection->reply) > 0 ? call_mismatch(connection) : KERN_SUCCESS;
+}
+
+/* Finds the greatest number that the space has used, or 0 if there is none. KERN_INVALID_ARGUMENT: all are used, or the
+   server has no numbered requests. */
+static kern_return_t find_last(struct connection *connection, const struct settings *settings, uint32_t *last) {
+    kern_return_t code = ask_last(connection, settings, last);
+    if (code == KERN_INVALID_ARGUMENT) {
+        code = search_last(connection, settings, last);
+    }
+    bool is_full = code == KERN_SUCCESS && *last >= UINT32_MAX - 1;
+    return is_full ? KERN_INVALID_ARGUMENT : code;
 }
 
 /* Handles a number that is too low, or that another call has: a second process uses the space. The outcome of its call

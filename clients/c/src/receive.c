@@ -1,7 +1,9 @@
 /*
  * Receives for event loops. If there is no message, it begins a wait on a second connection of the thread, and returns.
  * The wait is a call with limit 0 and MACH_RCV_LARGE, which leaves each message in the queue and only reports it. So a
- * cancelled wait loses nothing, and a message is taken only by the call that returns it.
+ * cancelled wait loses nothing, and a message is taken only by the call that returns it. The server has to answer the
+ * wait now and then even if there is no message, and a timer ends when the answer is late: over a path that is cut none
+ * comes.
  */
 
 #include "call.h"
@@ -10,6 +12,18 @@
 #include <errno.h>
 #include <poll.h>
 #include <sys/epoll.h>
+#include <sys/timerfd.h>
+
+/* Makes the descriptor for event loops, which is readable when the watch's socket is, or its timer has ended. */
+static void make_events(struct connection *watch) {
+    struct epoll_event event = {.events = EPOLLIN};
+    watch->watched = MACH_PORT_NULL;
+    watch->timer = timerfd_create(CLOCK_MONOTONIC, TFD_CLOEXEC);
+    watch->events = epoll_create1(EPOLL_CLOEXEC);
+    if (epoll_ctl(watch->events, EPOLL_CTL_ADD, watch->timer, &event) != 0) {
+        connection_close_events(watch);
+    }
+}
 
 /* Returns the thread's connection for waits, with its descriptor for event loops, or NULL. */
 static struct connection *watch_of_thread(void) {
@@ -23,8 +37,7 @@ static struct connection *watch_of_thread(void) {
     }
     struct connection *watch = own->watch;
     if (watch != NULL && watch->events < 0) {
-        watch->watched = MACH_PORT_NULL;
-        watch->events = epoll_create1(EPOLL_CLOEXEC);
+        make_events(watch);
     }
     return watch != NULL && watch->events >= 0 ? watch : NULL;
 }
@@ -34,10 +47,17 @@ int machipc_fd(void) {
     return watch != NULL ? watch->events : -1;
 }
 
+/* Sets the timer to these milliseconds. 0: it doesn't end. */
+static void set_timer(struct connection *watch, uint32_t milliseconds) {
+    struct itimerspec time = {.it_value = {milliseconds / 1000, milliseconds % 1000 * 1000000}};
+    timerfd_settime(watch->timer, 0, &time, NULL);
+}
+
 void machipc_receive_cancel(void) {
     struct connection *watch = watch_of_thread();
     if (watch != NULL && watch->watched != MACH_PORT_NULL) {
         connection_close(watch);
+        set_timer(watch, 0);
         watch->watched = MACH_PORT_NULL;
     }
 }
@@ -49,14 +69,20 @@ static bool waits_for(const struct connection *watch, mach_port_t name) {
 }
 
 /* Returns the call of a wait. Its reply's size and port are not used. */
-static struct message_call wait_for(mach_port_t name, mach_msg_header_t *nothing) {
-    return (struct message_call){.message = nothing, .option = MACH_RCV_MSG | MACH_RCV_LARGE, .receive_name = name};
+static struct message_call wait_for(mach_port_t name, mach_msg_header_t *nothing, mach_msg_timeout_t timeout) {
+    return (struct message_call){
+        .message = nothing,
+        .option = MACH_RCV_MSG | MACH_RCV_LARGE | MACH_RCV_TIMEOUT,
+        .receive_name = name,
+        .timeout = timeout,
+    };
 }
 
 static kern_return_t begin_wait(struct connection *watch, mach_port_t name) {
     mach_msg_header_t nothing;
-    struct message_call call = wait_for(name, &nothing);
     struct settings settings = settings_now();
+    uint32_t time = settings_answer_time(&settings);
+    struct message_call call = wait_for(name, &nothing, time);
     struct epoll_event event = {.events = EPOLLIN};
     message_frame(watch, &call);
     kern_return_t code = connection_open(watch, &settings);
@@ -64,33 +90,39 @@ static kern_return_t begin_wait(struct connection *watch, mach_port_t name) {
         return code;
     }
     bool is_added = epoll_ctl(watch->events, EPOLL_CTL_ADD, watch->socket, &event) == 0 || errno == EEXIST;
-    if (!is_added || !frame_send(&watch->call, watch->socket)) {
+    struct clock_wait answer = clock_wait_for(time);
+    if (!is_added || !frame_send(&watch->call, watch->socket, &answer)) {
         connection_close(watch);
         return MACH_RCV_INTERRUPTED;
     }
+    set_timer(watch, 2 * time);
     watch->watched = name;
     return KERN_SUCCESS;
 }
 
-static bool is_over(const struct connection *watch) {
-    struct pollfd polled = {.fd = watch->socket, .events = POLLIN};
+static bool is_readable(int descriptor) {
+    struct pollfd polled = {.fd = descriptor, .events = POLLIN};
     return poll(&polled, 1, 0) != 0;
 }
 
-/* Reads the outcome of a wait. KERN_SUCCESS: there was a message. */
+/* Reads the outcome of a wait. KERN_SUCCESS: there was a message, or the wait has to begin again. */
 static kern_return_t end_wait(struct connection *watch) {
     mach_msg_header_t nothing;
-    struct message_call call = wait_for(watch->watched, &nothing);
+    struct settings settings = settings_now();
+    struct message_call call = wait_for(watch->watched, &nothing, 0);
+    struct clock_wait rest = clock_wait_for(is_readable(watch->timer) ? 0 : settings_answer_time(&settings));
     watch->watched = MACH_PORT_NULL;
-    if (!frame_receive(&watch->reply, watch->socket)) {
+    set_timer(watch, 0);
+    if (!frame_receive(&watch->reply, watch->socket, &rest)) {
         connection_close(watch);
+        connection_close(connection_of_thread()); /* it has the same path */
         return MACH_RCV_INTERRUPTED;
     }
     kern_return_t code = call_read(watch, CALL_MACH_MSG);
     if (code != MIG_REPLY_MISMATCH) {
         code = message_result(watch, &call, code);
     }
-    return code == MACH_RCV_TOO_LARGE ? KERN_SUCCESS : code;
+    return code == MACH_RCV_TOO_LARGE || code == MACH_RCV_TIMED_OUT ? KERN_SUCCESS : code;
 }
 
 /* Takes a message, or begins to wait for one. If calls are numbered, a wait that can't begin because the server was
@@ -125,7 +157,7 @@ mach_msg_return_t machipc_receive(mach_msg_header_t *msg, mach_msg_option_t opti
         return message_no_memory(MACH_RCV_MSG);
     }
     if (waits_for(watch, rcv_name)) {
-        if (!is_over(watch)) {
+        if (!is_readable(watch->socket) && !is_readable(watch->timer)) {
             return MACH_RCV_IN_PROGRESS;
         }
         kern_return_t code = end_wait(watch);

@@ -3,6 +3,9 @@
 #include <pthread.h>
 #include <string.h>
 
+/* The bounds of settings_answer_time in milliseconds. */
+enum { SHORTEST_ANSWER = PATHS_TIME, LONGEST_ANSWER = 10000 };
+
 static pthread_mutex_t lock = PTHREAD_MUTEX_INITIALIZER;
 static pthread_once_t prepared = PTHREAD_ONCE_INIT;
 static struct settings shared = {.broker = -1, .space = MACHIPC_FIRST_SPACE, .patience = 30000};
@@ -42,15 +45,19 @@ struct settings settings_now(void) {
     return now;
 }
 
-bool settings_fits(const char *path) {
-    return path != NULL && path[0] != '\0' && strlen(path) < sizeof shared.path;
+uint32_t settings_answer_time(const struct settings *settings) {
+    uint32_t third = settings->patience / 3;
+    if (third < SHORTEST_ANSWER) {
+        return SHORTEST_ANSWER;
+    }
+    return third < LONGEST_ANSWER ? third : LONGEST_ANSWER;
 }
 
 /* Uses another server. The choices for the former one are dropped. */
-static void use(const char *path, int broker, machipc_space_t space) {
+static void use(const char *paths, int broker, machipc_space_t space) {
     take_lock();
-    memset(shared.path, 0, sizeof shared.path);
-    memcpy(shared.path, path, strlen(path));
+    memset(shared.paths, 0, sizeof shared.paths);
+    memcpy(shared.paths, paths, strlen(paths));
     shared.broker = broker;
     shared.space = space;
     shared.is_confined = broker >= 0;
@@ -60,8 +67,13 @@ static void use(const char *path, int broker, machipc_space_t space) {
     pthread_mutex_unlock(&lock);
 }
 
-void settings_use_server(const char *path) {
-    use(path, -1, MACHIPC_FIRST_SPACE);
+bool settings_use_server(const char *paths) {
+    struct paths read;
+    bool is_list = paths != NULL && paths_read(&read, paths);
+    if (is_list) {
+        use(paths, -1, MACHIPC_FIRST_SPACE);
+    }
+    return is_list;
 }
 
 void settings_use_broker(int broker, machipc_space_t space) {

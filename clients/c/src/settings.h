@@ -4,14 +4,15 @@
 #ifndef MACHIPC_SETTINGS_H
 #define MACHIPC_SETTINGS_H
 
+#include "paths.h"
+
 #include <machipc.h>
 #include <stdbool.h>
-#include <sys/un.h>
 
 /* A copy of the settings at one moment. */
 struct settings {
-    char path[sizeof(((struct sockaddr_un *) 0)->sun_path)]; /* empty: no server was named */
-    int broker; /* the descriptor over which connections are requested, instead of the path, or -1 */
+    char paths[PATHS_LIST]; /* a list of paths, or empty: no server was named */
+    int broker;             /* the descriptor over which connections are requested, instead of the paths, or -1 */
     machipc_space_t space;
     bool is_confined; /* to the space, for as long as the server stays the same */
     bool is_once;
@@ -24,10 +25,13 @@ struct settings {
 
 struct settings settings_now(void);
 
-/* Returns true if the path fits a socket's address. */
-bool settings_fits(const char *path);
+/* Returns the milliseconds within which the server has to answer a call that doesn't wait, and after which it has to answer
+   one that waits: a third of the patience, from 3 to 10 seconds. So a wait over a path that is cut leaves a third of the
+   patience for the other paths. */
+uint32_t settings_answer_time(const struct settings *settings);
 
-void settings_use_server(const char *path);
+/* Uses the server of a list of paths. Returns false if it is no list. */
+bool settings_use_server(const char *paths);
 /* Uses the broker's connections, which are attached to this space and confined to it. */
 void settings_use_broker(int broker, machipc_space_t space);
 /* Returns the generation that begins with it. */

@@ -3,15 +3,14 @@
 #include "settings.h"
 #include "space_end.h"
 
-kern_return_t machipc_connect(const char *path) {
-    if (!settings_fits(path)) {
-        return KERN_INVALID_ARGUMENT;
-    }
+kern_return_t machipc_connect(const char *paths) {
     struct connection *connection = connection_of_thread();
     if (connection == NULL) {
         return KERN_RESOURCE_SHORTAGE;
     }
-    settings_use_server(path);
+    if (!settings_use_server(paths)) {
+        return KERN_INVALID_ARGUMENT;
+    }
     struct settings settings = settings_now();
     return connection_open(connection, &settings);
 }

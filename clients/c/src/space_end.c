@@ -26,7 +26,7 @@ static kern_return_t look(struct connection *connection, const struct settings *
 
 static kern_return_t destroy(struct connection *connection, const struct settings *settings) {
     frame_begin(&connection->call, CALL_SPACE_DESTROY);
-    kern_return_t code = connection_exchange(connection, settings);
+    kern_return_t code = connection_exchange(connection, settings, 0);
     return code == KERN_SUCCESS ? call_read(connection, CALL_SPACE_DESTROY) : code;
 }
 

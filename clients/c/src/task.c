@@ -85,7 +85,7 @@ kern_return_t machipc_task_export(const machipc_task_t *task) {
     if (settings.broker >= 0) {
         return KERN_NO_ACCESS;
     }
-    bool is_done = unsetenv("MACHIPC_FD") == 0 && setenv("MACHIPC_SOCKET", settings.path, 1) == 0 &&
+    bool is_done = unsetenv("MACHIPC_FD") == 0 && setenv("MACHIPC_SOCKET", settings.paths, 1) == 0 &&
                    export_number("MACHIPC_SPACE", task->space) && export_number("MACHIPC_BOOTSTRAP", task->bootstrap) &&
                    export_number("MACHIPC_START", task->start);
     return is_done ? KERN_SUCCESS : KERN_RESOURCE_SHORTAGE;
@@ -130,8 +130,7 @@ kern_return_t machipc_adopt(machipc_task_t *task) {
     if (getenv("MACHIPC_FD") != NULL) {
         return adopt_brokered(task->space);
     }
-    const char *path = getenv("MACHIPC_SOCKET");
-    kern_return_t code = path == NULL ? KERN_INVALID_ARGUMENT : machipc_connect(path);
+    kern_return_t code = machipc_connect(getenv("MACHIPC_SOCKET"));
     return code == KERN_SUCCESS ? machipc_attach(task->space) : code;
 }
 

@@ -17,6 +17,9 @@ static size_t answer_length;
 static bool ends;
 static int listener;
 
+/* The reply to attach, by which each connection begins. */
+static const unsigned char attached[12] = {8};
+
 static void read_frame(int peer) {
     unsigned char bytes[4];
     static unsigned char rest[70000];
@@ -26,7 +29,7 @@ static void read_frame(int peer) {
     }
 }
 
-/* Accepts one connection after the other, answers one frame of each and waits until the client closes it. */
+/* Accepts one connection after the other, attaches it, answers one frame and waits until the client closes it. */
 static void *be_server(void *nothing) {
     for (;;) {
         char end;
@@ -34,6 +37,8 @@ static void *be_server(void *nothing) {
         if (peer < 0) {
             return nothing;
         }
+        read_frame(peer);
+        send(peer, attached, sizeof attached, MSG_NOSIGNAL);
         read_frame(peer);
         send(peer, answer, answer_length, MSG_NOSIGNAL);
         if (ends) {

@@ -10,6 +10,7 @@ from __future__ import annotations
 import asyncio
 import collections
 import concurrent.futures
+import contextlib
 import functools
 import socket
 from typing import Any, Callable, Deque, Dict, List, Optional, Tuple, TypeVar
@@ -27,7 +28,7 @@ from .errors import (
 from .messages import Message
 from .ports import PortStatus
 from .task import Task
-from .waiting import Deadline
+from .waiting import Deadline, answer_time
 
 T = TypeVar("T")
 
@@ -183,30 +184,28 @@ class AsyncTask:
     # Waiting.
 
     async def _await(self, name: int, wait: Deadline) -> None:
-        """Waits until there is a message, and leaves it. A task that numbers its calls waits again after a cut."""
+        """Waits until there is a message, and leaves it, or until the server has to answer all the same. A task that numbers
+        its calls waits again after a cut."""
         patience = Deadline(self.task.patience)
         while True:
             try:
-                return await self._watch(name, wait.left())
-            except MACH_RCV_INTERRUPTED:
-                if not self.task._numbers:
-                    raise
-                patience = Deadline(self.task.patience)  # the server was there until now
-                pause = patience.next_pause()
-            except MACH_SEND_INTERRUPTED as fault:
+                return await self._watch(name, self.task._part(wait))
+            except (MACH_SEND_INTERRUPTED, MACH_RCV_INTERRUPTED) as fault:
                 pause = patience.next_pause() if self.task._numbers else None
                 if pause is None:
                     raise MACH_RCV_INTERRUPTED(*fault.args) from None
-            await asyncio.sleep(pause or 0)
+            await asyncio.sleep(pause)
 
-    async def _watch(self, name: int, timeout: Optional[float]) -> None:
-        """Waits by a call with limit 0, into which no message fits. A cancelled wait ends with its connection."""
+    async def _watch(self, name: int, timeout: float) -> None:
+        """Waits by a call with limit 0, into which no message fits. A cancelled wait ends with its connection, and so does one
+        whose answer is late."""
         while not self._idle:
             await asyncio.to_thread(self._open)
         connection, generation = self._idle.pop(), self._generation
+        late = asyncio.get_running_loop().call_later(timeout + answer_time(self.task.patience), _cut, connection)
         is_out = False
         try:
-            option = wire.RCV_MSG | wire.RCV_LARGE | (0 if timeout is None else wire.RCV_TIMEOUT)
+            option = wire.RCV_MSG | wire.RCV_LARGE | wire.RCV_TIMEOUT
             frame = wire.words(wire.MACH_MSG) + wire.mach_msg(option, 0, name, timeout)
             await asyncio.get_running_loop().sock_sendall(connection, wire.with_length(frame))
             is_out = True
@@ -214,18 +213,19 @@ class AsyncTask:
         except OSError as fault:
             connection.close()
             self._close_idle()  # they are cut too
+            await self._run(self.task.close)
             raise (MACH_RCV_INTERRUPTED if is_out else MACH_SEND_INTERRUPTED)(str(fault)) from None
         except BaseException:
             connection.close()
             raise
+        finally:
+            late.cancel()
         if generation == self._generation:
             self._idle.append(connection)
         else:
             connection.close()
-        try:
+        with contextlib.suppress(MACH_RCV_TOO_LARGE, MACH_RCV_TIMED_OUT):
             wire.message(code, results, 0)
-        except MACH_RCV_TOO_LARGE:
-            return
 
     def _open(self) -> None:
         """Opens a connection for a wait, on another thread: the connection exists even if the wait was cancelled."""
@@ -355,6 +355,12 @@ class AsyncTask:
 def _name_and_kind(make: Callable[[int], Any], port: int) -> Tuple[int, int]:
     made = make(port)
     return int(made), made.kind
+
+
+def _cut(connection: socket.socket) -> None:
+    """Ends a connection whose answer is late, so that reading from it fails."""
+    with contextlib.suppress(OSError):
+        connection.shutdown(socket.SHUT_RDWR)
 
 
 async def _read_frame(connection: socket.socket) -> bytes:

@@ -25,7 +25,7 @@ from .errors import (
     MachError,
     refusal,
 )
-from .waiting import Deadline
+from .waiting import Deadline, answer_time
 
 _LAST_NUMBER = 0xFFFFFFFF
 
@@ -78,9 +78,12 @@ class Exchange:
         assert self._socket
         return routes.read_frame(self._socket)
 
-    def _exchange(self, frame: bytes) -> bytes:
-        """Returns the reply to a frame, which is sent once."""
+    def _exchange(self, frame: bytes, wait: float = 0.0) -> bytes:
+        """Returns the reply to a frame, which is sent once. `wait` has the seconds for which the server may wait before it
+        answers. A later answer counts as a cut: over a path that is cut none comes."""
         self._open()
+        assert self._socket
+        self._socket.settimeout(wait + answer_time(self.patience))
         is_out = False
         try:
             self._write(frame)
@@ -145,6 +148,21 @@ class Exchange:
 
     def _last_request(self) -> int:
         """Returns the greatest number that the space has used."""
+        last: int
+        try:
+            results = self._results(wire.LAST_REQUEST, self._exchange_repeated(wire.words(wire.LAST_REQUEST)))
+        except KERN_INVALID_ARGUMENT:
+            last = self._search_last_request()
+        else:
+            if len(results) != 8:
+                raise self._mismatch()
+            last, _ = struct.unpack("<2I", results)
+        if last >= _LAST_NUMBER - 1:
+            raise KERN_INVALID_ARGUMENT("the space has used all numbers")
+        return last
+
+    def _search_last_request(self) -> int:
+        """Returns the same number of a server that can't be asked for it."""
         if not self._is_new(_LAST_NUMBER):
             raise KERN_INVALID_ARGUMENT("the server has no numbered requests, or the space has used all numbers")
         used, unused = 0, _LAST_NUMBER
@@ -154,8 +172,6 @@ class Exchange:
                 unused = middle
             else:
                 used = middle
-        if used == _LAST_NUMBER - 1:
-            raise KERN_INVALID_ARGUMENT("the space has used all numbers")
         return used
 
     def _numbers_of_space(self) -> Numbers:

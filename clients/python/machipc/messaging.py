@@ -19,7 +19,7 @@ from .errors import (
 )
 from .exchange import Exchange
 from .messages import Message
-from .waiting import Deadline
+from .waiting import Deadline, answer_time
 
 
 def text_of(message: Message) -> bytes:
@@ -39,9 +39,8 @@ class Messaging(Exchange):
         if self._numbers:
             self._send_once(text, timeout)
             return
-        option = wire.SEND_MSG | (0 if timeout is None else wire.SEND_TIMEOUT)
         try:
-            self._sent(*self._mach_msg(option, 0, 0, timeout, text))
+            self._sent(*self._mach_msg(wire.SEND_MSG, 0, 0, timeout, text))
         except MACH_RCV_INTERRUPTED as fault:
             raise MACH_SEND_INTERRUPTED(*fault.args) from None
 
@@ -52,11 +51,8 @@ class Messaging(Exchange):
         stays with `large`; MACH_RCV_TOO_LARGE has its size and port."""
         if self._numbers:
             return self._receive_once(name, timeout, limit, large)
-        option = wire.RCV_MSG | (0 if timeout is None else wire.RCV_TIMEOUT) | (wire.RCV_LARGE if large else 0)
-        try:
-            return self._received(*self._mach_msg(option, limit, name, timeout), limit)
-        except MACH_SEND_INTERRUPTED as fault:
-            raise MACH_RCV_INTERRUPTED(*fault.args) from None
+        option = wire.RCV_MSG | (wire.RCV_LARGE if large else 0)
+        return self._received(*self._mach_msg(option, limit, name, timeout), limit)
 
     def send_receive(
         self, message: Message, name: int, timeout: Optional[float] = None, limit: int = LARGEST_MESSAGE
@@ -66,15 +62,39 @@ class Messaging(Exchange):
         if self._numbers:
             self._send_once(text_of(message), timeout)
             return self._receive_once(name, timeout, limit, False)
-        timeouts = 0 if timeout is None else wire.SEND_TIMEOUT | wire.RCV_TIMEOUT
-        option = wire.SEND_MSG | wire.RCV_MSG | timeouts
-        return self._received(*self._mach_msg(option, limit, name, timeout, text_of(message)), limit)
+        text = text_of(message)
+        return self._received(*self._mach_msg(wire.SEND_MSG | wire.RCV_MSG, limit, name, timeout, text), limit)
 
     def _mach_msg(
         self, option: int, limit: int, name: int, timeout: Optional[float], text: bytes = b""
     ) -> Tuple[int, bytes]:
-        frame = wire.words(wire.MACH_MSG) + wire.mach_msg(option, limit, name, timeout, text)
-        return self._answer(wire.MACH_MSG, self._exchange(frame))
+        """Makes a call of which each half has this timeout. A long wait is made in parts, so that the server has to answer
+        each: over a path that is cut no answer comes."""
+        wait = Deadline(timeout)
+        while True:
+            part = self._part(wait)
+            try:
+                code, results = self._mach_msg_part(option, limit, name, part, text)
+            except MACH_SEND_INTERRUPTED as fault:
+                if option & wire.SEND_MSG:
+                    raise
+                raise MACH_RCV_INTERRUPTED(*fault.args) from None
+            if code == MACH_RCV_TIMED_OUT.code and option & wire.SEND_MSG:
+                option, text = option & ~wire.SEND_MSG, b""
+                wait = Deadline(None if timeout is None else timeout - part)  # the receive has begun with this part
+            if wait.left() == 0 or code not in (MACH_SEND_TIMED_OUT.code, MACH_RCV_TIMED_OUT.code):
+                return code, results
+
+    def _part(self, wait: Deadline) -> float:
+        """Returns the seconds of a wait after which the server has to answer."""
+        left, longest = wait.left(), answer_time(self.patience)
+        return longest if left is None else min(left, longest)
+
+    def _mach_msg_part(self, option: int, limit: int, name: int, part: float, text: bytes = b"") -> Tuple[int, bytes]:
+        has_both = option & wire.SEND_MSG and option & wire.RCV_MSG
+        option |= wire.SEND_TIMEOUT | wire.RCV_TIMEOUT
+        frame = wire.words(wire.MACH_MSG) + wire.mach_msg(option, limit, name, part, text)
+        return self._answer(wire.MACH_MSG, self._exchange(frame, 2 * part if has_both else part))
 
     def _received(self, code: int, results: bytes, limit: int) -> Message:
         try:
@@ -126,22 +146,18 @@ class Messaging(Exchange):
             self._await(name, wait)
 
     def _await(self, name: int, wait: Deadline) -> None:
-        """Waits until there is a message, and leaves it: none fits into a limit of 0."""
+        """Waits until there is a message, and leaves it, since none fits into a limit of 0; or until the server has to answer
+        all the same."""
         patience = Deadline(self.patience)
         is_again = False
         while True:
-            left = wait.left()
-            option = wire.RCV_MSG | wire.RCV_LARGE | (0 if left is None else wire.RCV_TIMEOUT)
             try:
-                code, results = self._mach_msg(option, 0, name, left)
+                code, results = self._mach_msg_part(wire.RCV_MSG | wire.RCV_LARGE, 0, name, self._part(wait))
                 self.repeats += is_again
                 self._received(code, results, 0)
-            except MACH_RCV_TOO_LARGE:
+            except (MACH_RCV_TOO_LARGE, MACH_RCV_TIMED_OUT):
                 return
-            except MACH_RCV_INTERRUPTED:
-                patience = Deadline(self.patience)  # the server was there until now
-                patience.pause()
-            except MACH_SEND_INTERRUPTED as fault:
+            except (MACH_SEND_INTERRUPTED, MACH_RCV_INTERRUPTED) as fault:
                 if not patience.pause():
                     raise MACH_RCV_INTERRUPTED(*fault.args) from None
             is_again = True

@@ -1,44 +1,89 @@
-"""The ways to a server: its socket, or `machrun`, which gives connections to a confined program."""
+"""The ways to a server: the paths of its sockets, or `machrun`, which gives connections to a confined program."""
 
 from __future__ import annotations
 
 import array
 import errno
 import os
+import re
 import socket
-from typing import Tuple, Union
+from typing import List, Optional, Tuple, Union
 
 from . import wire
-from .constants import FIRST_SPACE
-from .errors import refusal
-from .waiting import Deadline
+from .errors import KERN_INVALID_ARGUMENT, MachError, refusal
+from .waiting import PATH_TIME, Deadline
 
 # machrun's answer if the server can't be reached now, and the longest wait for an answer in seconds.
 _LATER, _BROKER_PATIENCE = 255, 20.0
 _PASSING = (errno.EAGAIN, errno.ETOOMANYREFS, errno.ENOBUFS)
 
-# The socket's path, or the descriptor for requests to machrun.
-Route = Union[str, int]
+_MOST_PATHS, _LONGEST_PATH = 4, 107
+_PATH = r"(?:[^:\\]|\\[:\\])+"
+
+
+class Paths:
+    """A list of paths, `PATH1:PATH2`. A `:` in a path is written `\\:`, and a backslash `\\\\`."""
+
+    def __init__(self, text: str) -> None:
+        self.each: List[str] = [re.sub(r"\\(.)", r"\1", it) for it in re.findall(_PATH, text)]
+        is_list = re.fullmatch(f"{_PATH}(?::{_PATH})*", text) and len(self.each) <= _MOST_PATHS
+        if not is_list or any(len(os.fsencode(it)) > _LONGEST_PATH for it in self.each):
+            raise KERN_INVALID_ARGUMENT(f"no list of at most {_MOST_PATHS} paths of sockets: {text!r}")
+        self._last = 0  # the place of the path that answered last, which is tried first
+
+    def open(self, space: int, is_confined: bool) -> socket.socket:
+        fault: Optional[OSError] = None
+        for place in (*range(self._last, len(self.each)), *range(self._last)):
+            try:
+                made = _open_path(self.each[place], space, is_confined)
+            except MachError:
+                raise  # the server's answer
+            except OSError as it:
+                fault = it
+            else:
+                self._last = place
+                return made
+        assert fault
+        raise fault
+
+
+# The paths of the server's sockets, or the descriptor for requests to machrun.
+Route = Union[Paths, int]
 
 
 def open_socket(route: Route, space: int, is_confined: bool) -> socket.socket:
     """Returns a connection in a space, for good if it is confined there. Raises OSError if there is none now."""
-    if isinstance(route, int):
-        return _from_broker(route)
+    return _from_broker(route) if isinstance(route, int) else route.open(space, is_confined)
+
+
+def _open_path(path: str, space: int, is_confined: bool) -> socket.socket:
+    """Connects to the server at a path. A server that accepts and doesn't answer isn't ready, or isn't reached: a proxy
+    accepts for a server that is gone."""
+    wait = Deadline(PATH_TIME)
     made = socket.socket(socket.AF_UNIX)
     try:
-        made.connect(route)
-        if space != FIRST_SPACE:
-            _enter(made, wire.ATTACH, space)
+        _connect(made, path, wait)
+        _enter(made, wait, wire.ATTACH, space)
         if is_confined:
-            _enter(made, wire.CONFINE)
+            _enter(made, wait, wire.CONFINE)
     except BaseException:
         made.close()
         raise
     return made
 
 
-def _enter(connection: socket.socket, number: int, *arguments: int) -> None:
+def _connect(made: socket.socket, path: str, wait: Deadline) -> None:
+    made.setblocking(False)
+    while True:
+        try:
+            return made.connect(path)
+        except BlockingIOError:  # the server has accepted none for a while
+            if not wait.pause():
+                raise
+
+
+def _enter(connection: socket.socket, wait: Deadline, number: int, *arguments: int) -> None:
+    connection.settimeout(wait.left())
     connection.sendall(wire.with_length(wire.words(number, *arguments)))
     code, _ = wire.answer(number, read_frame(connection))
     if code:

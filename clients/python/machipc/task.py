@@ -49,8 +49,18 @@ def _number_of_environment(variable: str, default: str = "") -> int:
         raise ValueError(f"{variable} of the environment is no number") from None
 
 
+def _route_of_environment(path: str) -> routes.Route:
+    if "MACHIPC_FD" not in os.environ and path:
+        return routes.Paths(path)
+    descriptor = _number_of_environment("MACHIPC_FD")
+    if not routes.is_broker(descriptor):
+        raise ValueError("the environment has no way to the task's server")
+    return descriptor
+
+
 class Task(PortCalls, Messaging):
     """A connection to the server at `path`, in a space; `Task.adopt` gives one to the server and space that machrun chose.
+    A list of paths, `PATH1:PATH2`, leads to the first server that answers.
 
     A Task is for one thread at a time; `another` gives one more in the same space. Timeouts are seconds, and None waits
     forever. A connection that is cut raises MACH_SEND_INTERRUPTED or MACH_RCV_INTERRUPTED, and the next call connects
@@ -66,7 +76,7 @@ class Task(PortCalls, Messaging):
         self, path: str, space: int = FIRST_SPACE, *, once: bool = False, patience: Optional[float] = 30.0
     ) -> None:
         self.path = path
-        self._begin(path, space, once, patience)
+        self._begin(routes.Paths(path), space, once, patience)
 
     @classmethod
     def adopt(cls, *, once: bool = False, patience: Optional[float] = 30.0) -> Task:
@@ -78,16 +88,9 @@ class Task(PortCalls, Messaging):
         path = os.environ.get("MACHIPC_SOCKET", "")
         space, bootstrap = _number_of_environment("MACHIPC_SPACE"), _number_of_environment("MACHIPC_BOOTSTRAP")
         start = _number_of_environment("MACHIPC_START", "1")
-        route: routes.Route = path
-        is_there = bool(path)
-        if "MACHIPC_FD" in os.environ:
-            route = _number_of_environment("MACHIPC_FD")
-            is_there = routes.is_broker(route)
-        if not is_there:
-            raise ValueError("the environment has no way to the task's server")
         made = cls.__new__(cls)
         made.path = path
-        made._begin(route, space, once, patience)
+        made._begin(_route_of_environment(path), space, once, patience)
         made.bootstrap, made.start = bootstrap, start
         return made
 

@@ -6,6 +6,16 @@ import time
 from typing import Optional
 
 _FIRST_PAUSE, _LONGEST_PAUSE = 0.001, 0.05
+# The seconds within which a path has to lead to a server that answers, with all calls that a connection begins with.
+PATH_TIME = 3.0
+_LONGEST_ANSWER = 10.0
+
+
+def answer_time(patience: Optional[float]) -> float:
+    """Returns the seconds within which the server has to answer a call that doesn't wait, and after which it has to answer
+    one that waits: a third of the patience, from 3 to 10 seconds. So a wait over a path that is cut leaves a third of the
+    patience for the other paths."""
+    return _LONGEST_ANSWER if patience is None else min(max(patience / 3, PATH_TIME), _LONGEST_ANSWER)
 
 
 class Deadline:

@@ -114,17 +114,15 @@ impl Receiver {
         }
     }
 
-    /// Waits for a message, or until the time is over. A task that numbers its calls waits again after a cut.
+    /// Waits for a message, or until the time is over or the server has to answer all the same. A task that numbers its
+    /// calls waits again after a cut.
     async fn wait(&self, end: Option<Instant>) -> Result<()> {
         let task = self.port().task();
-        let mut last_try = task.patience().and_then(|it| Instant::now().checked_add(it));
+        let last_try = task.patience().and_then(|it| Instant::now().checked_add(it));
         loop {
             match self.watch(end).await {
+                Err(Error::MachRcvTimedOut) => return Ok(()),
                 Err(fault) if fault.is_cut() && task.is_once() => {
-                    if matches!(fault, Error::MachRcvInterrupted(_)) {
-                        // The server was there until now.
-                        last_try = task.patience().and_then(|it| Instant::now().checked_add(it));
-                    }
                     if last_try.map_or(false, |it| it <= Instant::now()) {
                         return Err(fault);
                     }
@@ -138,15 +136,15 @@ impl Receiver {
     /// Waits by a call that takes no message, on a connection of its own.
     async fn watch(&self, end: Option<Instant>) -> Result<()> {
         let port = self.port().clone();
-        let watch: Watch = call(move || port.task().watch(port.name(), None)).await?;
+        let time = port.task().answer_time();
+        let late = Instant::now() + 2 * time;
+        let watch: Watch = call(move || port.task().watch(port.name(), time)).await?;
         let cut = |fault: std::io::Error| Error::MachRcvInterrupted(fault.kind());
         let readable = AsyncFd::with_interest(watch, Interest::READABLE).map_err(cut)?;
-        match end {
-            None => drop(readable.readable().await.map_err(cut)?),
-            Some(end) => match timeout_at(end, readable.readable()).await {
-                Ok(ready) => drop(ready.map_err(cut)?),
-                Err(_) => return Ok(()),
-            },
+        match timeout_at(end.map_or(late, |it| it.min(late)), readable.readable()).await {
+            Ok(ready) => drop(ready.map_err(cut)?),
+            Err(_) if Instant::now() < late => return Ok(()),
+            Err(_) => {}
         }
         readable.into_inner().finish()
     }

@@ -4,10 +4,12 @@ use std::fmt;
 use std::io::{self, Write};
 use std::os::unix::io::OwnedFd;
 use std::os::unix::net::{UnixDatagram, UnixStream};
-use std::path::PathBuf;
+use std::path::Path;
+use std::sync::Arc;
 use std::time::Duration;
 
-use crate::deadline::Deadline;
+use crate::deadline::{answer_time, Deadline};
+use crate::paths::Paths;
 use crate::wire::{self, Answer, Call};
 use crate::{scm, Error, Result};
 
@@ -18,8 +20,8 @@ const LATER: u8 = 255;
 
 /// A way to a server.
 pub(crate) enum Route {
-    /// The server's socket.
-    Path(PathBuf),
+    /// The paths of the server's sockets.
+    Paths(Arc<Paths>),
     /// The descriptor by which `machrun` gives connections, which are attached and confined.
     Broker(OwnedFd),
 }
@@ -27,7 +29,7 @@ pub(crate) enum Route {
 impl fmt::Debug for Route {
     fn fmt(&self, f: &mut fmt::Formatter<'_>) -> fmt::Result {
         match self {
-            Route::Path(path) => write!(f, "{path:?}"),
+            Route::Paths(paths) => paths.fmt(f),
             Route::Broker(_) => f.write_str("machrun"),
         }
     }
@@ -37,7 +39,7 @@ impl PartialEq for Route {
     /// A process has one `machrun`.
     fn eq(&self, other: &Route) -> bool {
         match (self, other) {
-            (Route::Path(one), Route::Path(other)) => one == other,
+            (Route::Paths(one), Route::Paths(other)) => one == other,
             (one, other) => matches!((one, other), (Route::Broker(_), Route::Broker(_))),
         }
     }
@@ -47,16 +49,7 @@ impl Route {
     /// Opens a connection in a space, for good if it is confined there.
     pub(crate) fn open(&self, space: u32, is_confined: bool) -> Result<Connection> {
         match self {
-            Route::Path(path) => {
-                let mut connection = Connection::open(path)?;
-                if space != crate::FIRST_SPACE {
-                    connection.enter(&Call::new(wire::ATTACH, &[space]))?;
-                }
-                if is_confined {
-                    connection.enter(&Call::new(wire::CONFINE, &[]))?;
-                }
-                Ok(connection)
-            }
+            Route::Paths(paths) => paths.open(space, is_confined),
             Route::Broker(broker) => ask_broker(broker),
         }
     }
@@ -77,7 +70,7 @@ fn ask_broker(broker: &OwnedFd) -> Result<Connection> {
     own.set_read_timeout(patience.left().filter(|left| !left.is_zero())).map_err(cut)?;
     loop {
         match scm::receive_descriptor(&own) {
-            Ok(Some((_, Some(given)))) => return Ok(Connection { stream: UnixStream::from(given) }),
+            Ok(Some((_, Some(given)))) => return Ok(Connection::new(UnixStream::from(given))),
             Ok(None | Some((0 | LATER, None))) => {
                 return Err(Error::MachSendInterrupted(io::ErrorKind::ConnectionRefused))
             }
@@ -118,24 +111,38 @@ pub struct Connection {
 }
 
 impl Connection {
-    /// Connects to the server's socket. The connection is in the first space.
-    pub fn open(path: impl Into<PathBuf>) -> Result<Connection> {
-        let stream = UnixStream::connect(path.into()).map_err(|fault| Error::MachSendInterrupted(fault.kind()))?;
-        Ok(Connection { stream })
+    /// Connects to the server's socket, or by the first path of a list ([`Task::connect`](crate::Task::connect)) that leads
+    /// to a server. The connection is in the first space.
+    pub fn open(path: impl AsRef<Path>) -> Result<Connection> {
+        Paths::read(path.as_ref())?.open(crate::FIRST_SPACE, false)
+    }
+
+    pub(crate) fn new(stream: UnixStream) -> Connection {
+        Connection { stream }
     }
 
     /// Takes the connection to another space. `KernInvalidTask`: no such space; `KernNoAccess`: it is confined.
     pub fn attach(&mut self, space: u32) -> Result<()> {
-        self.enter(&Call::new(wire::ATTACH, &[space]))
+        self.attach_until(space, &Deadline::after(Some(answer_time(None))))
     }
 
     /// Confines the connection to its space, for good.
     pub fn confine(&mut self) -> Result<()> {
-        self.enter(&Call::new(wire::CONFINE, &[]))
+        self.confine_until(&Deadline::after(Some(answer_time(None))))
     }
 
-    /// Returns the socket. Its frames are those of the server's FORMATS page.
+    pub(crate) fn attach_until(&mut self, space: u32, end: &Deadline) -> Result<()> {
+        self.enter(&Call::new(wire::ATTACH, &[space]), end)
+    }
+
+    pub(crate) fn confine_until(&mut self, end: &Deadline) -> Result<()> {
+        self.enter(&Call::new(wire::CONFINE, &[]), end)
+    }
+
+    /// Returns the socket, without timeouts. Its frames are those of the server's FORMATS page.
     pub fn into_stream(self) -> UnixStream {
+        let _ = self.stream.set_read_timeout(None);
+        let _ = self.stream.set_write_timeout(None);
         self.stream
     }
 
@@ -144,24 +151,26 @@ impl Connection {
     }
 
     /// Makes a call without results. A connection that is cut by it can't be used any more.
-    fn enter(&mut self, call: &Call) -> Result<()> {
-        self.exchange(call).map_err(Error::of_send)?.ok().map(drop)
+    fn enter(&mut self, call: &Call, end: &Deadline) -> Result<()> {
+        self.exchange(call, end).map_err(Error::of_send)?.ok().map(drop)
     }
 
     /// Makes a call, once. After an error the connection can't be used any more.
-    pub(crate) fn exchange(&mut self, call: &Call) -> Result<Answer> {
-        self.write(call)?;
-        self.read(call)
+    pub(crate) fn exchange(&mut self, call: &Call, end: &Deadline) -> Result<Answer> {
+        self.write(call, end)?;
+        self.read(call, end)
     }
 
     /// Writes a call.
-    pub(crate) fn write(&mut self, call: &Call) -> Result<()> {
-        self.stream.write_all(call.frame()).map_err(|fault| Error::MachSendInterrupted(fault.kind()))
+    pub(crate) fn write(&mut self, call: &Call, end: &Deadline) -> Result<()> {
+        let written =
+            self.stream.set_write_timeout(end.left_for_socket()).and_then(|()| self.stream.write_all(call.frame()));
+        written.map_err(|fault| Error::MachSendInterrupted(fault.kind()))
     }
 
-    /// Reads the answer to a call that was written.
-    pub(crate) fn read(&mut self, call: &Call) -> Result<Answer> {
-        let reply = wire::read_frame(&mut self.stream).map_err(|fault| Error::MachRcvInterrupted(fault.kind()))?;
+    /// Reads the answer to a call that was written. A later answer counts as a cut: over a path that is cut none comes.
+    pub(crate) fn read(&mut self, call: &Call, end: &Deadline) -> Result<Answer> {
+        let reply = wire::read_frame(&self.stream, end).map_err(|fault| Error::MachRcvInterrupted(fault.kind()))?;
         Answer::of(call, reply)
     }
 }

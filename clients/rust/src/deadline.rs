@@ -3,9 +3,22 @@
 use std::thread;
 use std::time::{Duration, Instant};
 
+/// The time within which a path has to lead to a server that answers, with all calls that a connection begins with.
+pub(crate) const PATH_TIME: Duration = Duration::from_secs(3);
+
+const LONGEST_ANSWER: Duration = Duration::from_secs(10);
+
+/// Returns the time within which the server has to answer a call that doesn't wait, and after which it has to answer one
+/// that waits: a third of the patience, from 3 to 10 seconds. So a wait over a path that is cut leaves a third of the
+/// patience for the other paths.
+pub(crate) fn answer_time(patience: Option<Duration>) -> Duration {
+    patience.map_or(LONGEST_ANSWER, |it| (it / 3).clamp(PATH_TIME, LONGEST_ANSWER))
+}
+
 const FIRST_PAUSE: Duration = Duration::from_millis(1);
 const LONGEST_PAUSE: Duration = Duration::from_millis(50);
 
+#[derive(Debug)]
 pub(crate) struct Deadline {
     /// `None` is never over.
     end: Option<Instant>,
@@ -20,6 +33,11 @@ impl Deadline {
 
     pub(crate) fn left(&self) -> Option<Duration> {
         self.end.map(|end| end.saturating_duration_since(Instant::now()))
+    }
+
+    /// Returns the time that is left, and at least a millisecond, since a socket takes no timeout of zero.
+    pub(crate) fn left_for_socket(&self) -> Option<Duration> {
+        self.left().map(|it| it.max(Duration::from_millis(1)))
     }
 
     pub(crate) fn is_over(&self) -> bool {
@@ -38,8 +56,7 @@ impl Deadline {
 }
 
 /// Returns a time as `mach_msg` has it: whole milliseconds, rounded up.
-pub(crate) fn milliseconds(time: Option<Duration>) -> u32 {
-    let time = time.unwrap_or(Duration::ZERO);
+pub(crate) fn milliseconds(time: Duration) -> u32 {
     let whole = time.as_millis() + u128::from(time.subsec_nanos() % 1_000_000 != 0);
     whole.min(0xffff_fffe) as u32
 }

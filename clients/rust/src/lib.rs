@@ -72,8 +72,9 @@
 //!
 //! # When the connection is cut
 //!
-//! A call whose connection is cut fails with an error that [`Error::is_cut`] knows, and the next call connects anew. The
-//! error doesn't say whether the call was made. With [`Options::once`] it is made once and answered, however often the
+//! A call whose connection is cut fails with an error that [`Error::is_cut`] knows, and the next call connects anew, by any
+//! of the paths of [`Task::connect`]. An answer that is later than [`Task::answer_time`] counts as a cut. The error doesn't
+//! say whether the call was made. With [`Options::once`] it is made once and answered, however often the
 //! connection or the server goes away meanwhile:
 //!
 //! ```
@@ -106,6 +107,7 @@ mod items;
 mod message;
 mod messaging;
 mod name;
+mod paths;
 mod received;
 mod rights;
 #[allow(unsafe_code)]

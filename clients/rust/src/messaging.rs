@@ -101,16 +101,38 @@ impl Task {
             Ok(bytes) => bytes,
             Err(error) => return Err(SendError::unsent(error, message)),
         };
-        let limits = if timeout.is_some() { wire::SEND_TIMEOUT | wire::RCV_TIMEOUT } else { 0 };
-        let option = wire::SEND_MSG | wire::RCV_MSG | limits;
-        let call = Call::mach_msg(option, options.limit, from.0, milliseconds(timeout), &bytes);
-        match self.shared.exchange(&call).and_then(message_of).and_then(|it| self.received(it, options.limit)) {
-            Ok(received) => {
-                message.forget();
-                Ok(received)
+        let wait = Deadline::after(timeout);
+        loop {
+            let part = self.part(&wait);
+            match self.mach_msg(wire::SEND_MSG | wire::RCV_MSG, options.limit, from, part, &bytes) {
+                Err(Error::MachSendTimedOut) if !wait.is_over() => {}
+                Err(Error::MachRcvTimedOut) if timeout.map_or(true, |it| self.answer_time() < it) => {
+                    message.forget();
+                    let rest = ReceiveOptions { timeout: timeout.map(|it| it - part), ..options };
+                    return self.receive(from, &rest).map_err(|error| SendError::gone(error, Message::new(0)));
+                }
+                made => match made.and_then(|it| self.received(it, options.limit)) {
+                    Ok(received) => {
+                        message.forget();
+                        return Ok(received);
+                    }
+                    Err(error) => return Err(self.send_error(error, message, |it| it)),
+                },
             }
-            Err(error) => Err(self.send_error(error, message, |it| it)),
         }
+    }
+
+    /// Returns the part of a wait after which the server has to answer: over a path that is cut no answer comes.
+    fn part(&self, wait: &Deadline) -> Duration {
+        wait.left().map_or(self.answer_time(), |left| left.min(self.answer_time()))
+    }
+
+    /// Makes a part of a call, of which each half has this timeout.
+    fn mach_msg(&self, option: u32, limit: u32, name: Name, part: Duration, bytes: &[u8]) -> Result<Vec<u8>> {
+        let halves = (option & (wire::SEND_MSG | wire::RCV_MSG)).count_ones();
+        let option = option | wire::SEND_TIMEOUT | wire::RCV_TIMEOUT;
+        let call = Call::mach_msg(option, limit, name.0, milliseconds(part), bytes);
+        self.shared.exchange_waiting(&call, halves * part).and_then(message_of)
     }
 
     /// Returns the error of a send, with the message if that wasn't sent. If the send was numbered, a cut leaves open
@@ -128,9 +150,13 @@ impl Task {
         if self.is_once() {
             return self.send_once(bytes, timeout);
         }
-        let option = wire::SEND_MSG | if timeout.is_some() { wire::SEND_TIMEOUT } else { 0 };
-        let call = Call::mach_msg(option, 0, 0, milliseconds(timeout), bytes);
-        self.shared.exchange(&call).and_then(message_of).map(drop)
+        let wait = Deadline::after(timeout);
+        loop {
+            match self.mach_msg(wire::SEND_MSG, 0, Name::NULL, self.part(&wait), bytes) {
+                Err(Error::MachSendTimedOut) if !wait.is_over() => {}
+                sent => return sent.map(drop),
+            }
+        }
     }
 
     /// A numbered send is one attempt, so it is made again until there is room.
@@ -151,11 +177,13 @@ impl Task {
         if self.is_once() {
             return self.receive_once(name, options);
         }
-        let limit = if options.timeout.is_some() { wire::RCV_TIMEOUT } else { 0 };
-        let option = wire::RCV_MSG | limit | options.large();
-        let call = Call::mach_msg(option, options.limit, name.0, milliseconds(options.timeout), &[]);
-        let answer = self.shared.exchange(&call).map_err(Error::of_receive)?;
-        self.received(message_of(answer)?, options.limit)
+        let wait = Deadline::after(options.timeout);
+        loop {
+            match self.mach_msg(wire::RCV_MSG | options.large(), options.limit, name, self.part(&wait), &[]) {
+                Err(Error::MachRcvTimedOut) if !wait.is_over() => {}
+                made => return self.received(made.map_err(Error::of_receive)?, options.limit),
+            }
+        }
     }
 
     fn received(&self, bytes: Vec<u8>, limit: u32) -> Result<Received> {
@@ -181,25 +209,24 @@ impl Task {
         }
     }
 
-    /// Waits until there is a message, and leaves it. A wait that is cut begins again.
+    /// Waits until there is a message, and leaves it, or until the server has to answer all the same. A wait that is cut
+    /// begins again.
     fn wait_for_message(&self, name: Name, wait: &Deadline) -> Result<()> {
         let mut patience = Deadline::after(self.shared.patience);
         let mut is_again = false;
         loop {
-            match self.watch(name, wait.left()).and_then(Watch::finish) {
-                Err(Error::MachRcvInterrupted(_)) => {
-                    // The server was there until now.
-                    patience = Deadline::after(self.shared.patience);
-                    patience.pause();
-                }
-                Err(Error::MachSendInterrupted(kind)) => {
+            match self.watch(name, self.part(wait)).and_then(Watch::finish) {
+                Err(fault) if fault.is_cut() => {
                     if !patience.pause() {
-                        return Err(Error::MachRcvInterrupted(kind));
+                        return Err(fault.of_receive());
                     }
                 }
                 waited => {
                     self.shared.count_repeat(is_again);
-                    return waited;
+                    return match waited {
+                        Err(Error::MachRcvTimedOut) => Ok(()),
+                        waited => waited,
+                    };
                 }
             }
             is_again = true;
@@ -207,22 +234,26 @@ impl Task {
     }
 
     /// Begins to wait for a message of a port or a set, for an event loop. The wait takes no message.
-    pub fn watch(&self, name: Name, timeout: Option<Duration>) -> Result<Watch> {
-        let limit = if timeout.is_some() { wire::RCV_TIMEOUT } else { 0 };
-        let option = wire::RCV_MSG | wire::RCV_LARGE | limit;
+    ///
+    /// It ends with `MachRcvTimedOut` after the timeout. A longer one than [`Task::answer_time`] notices a path that is cut
+    /// later.
+    pub fn watch(&self, name: Name, timeout: Duration) -> Result<Watch> {
+        let option = wire::RCV_MSG | wire::RCV_LARGE | wire::RCV_TIMEOUT;
         let call = Call::mach_msg(option, 0, name.0, milliseconds(timeout), &[]);
         let mut taken = self.shared.take()?;
-        if let Err(fault) = taken.connection.write(&call) {
+        let end = self.shared.end_of_answer(timeout);
+        if let Err(fault) = taken.connection.write(&call, &end) {
             self.shared.renew(false);
             return Err(fault);
         }
-        Ok(Watch { shared: self.shared.clone(), taken, call })
+        Ok(Watch { shared: self.shared.clone(), taken, call, end })
     }
 }
 
 /// A wait for a message that takes none, on a connection of its own.
 ///
-/// Its descriptor becomes readable when the wait is over. Dropping it ends the wait, and loses nothing.
+/// Its descriptor becomes readable when the wait is over. If it doesn't within the wait's timeout and
+/// [`Task::answer_time`], the path is cut, and [`Watch::finish`] says so. Dropping it ends the wait, and loses nothing.
 ///
 /// ```
 /// # fn main() -> Result<(), machipc::AdoptError> {
@@ -230,7 +261,7 @@ impl Task {
 /// use std::time::Duration;
 ///
 /// let port = task.allocate()?;
-/// let watch = task.watch(port.name(), None)?;
+/// let watch = task.watch(port.name(), task.answer_time())?;
 /// port.send(machipc::Message::new(7), None).map_err(machipc::Error::from)?;
 /// // An event loop waits here until `watch.as_raw_fd()` is readable.
 /// watch.finish()?;
@@ -243,14 +274,15 @@ pub struct Watch {
     shared: Arc<Shared>,
     taken: Taken,
     call: Call,
+    end: Deadline,
 }
 
 impl Watch {
     /// Says how the wait ended, and waits for that if it isn't over. `Ok`: there was a message, which another thread may
     /// take first.
     pub fn finish(self) -> Result<()> {
-        let Watch { shared, mut taken, call } = self;
-        let answer = match taken.connection.read(&call) {
+        let Watch { shared, mut taken, call, end } = self;
+        let answer = match taken.connection.read(&call, &end) {
             Ok(answer) => answer,
             Err(fault) => {
                 shared.renew(false);

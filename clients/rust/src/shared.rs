@@ -5,7 +5,7 @@ use std::sync::{Mutex, MutexGuard, PoisonError};
 use std::time::Duration;
 
 use crate::connection::{Connection, Route};
-use crate::deadline::Deadline;
+use crate::deadline::{answer_time, Deadline};
 use crate::wire::{self, Answer, Call};
 use crate::{Error, Name, Result};
 
@@ -84,10 +84,20 @@ impl Shared {
         idle.is_confined |= is_confined;
     }
 
-    /// Makes a call, once.
+    /// Returns when the server has to have answered a call that waits for this time.
+    pub(crate) fn end_of_answer(&self, wait: Duration) -> Deadline {
+        Deadline::after(Some(wait + answer_time(self.patience)))
+    }
+
+    /// Makes a call that doesn't wait, once.
     pub(crate) fn exchange(&self, call: &Call) -> Result<Answer> {
+        self.exchange_waiting(call, Duration::ZERO)
+    }
+
+    /// Makes a call that waits for at most this time, once.
+    pub(crate) fn exchange_waiting(&self, call: &Call, wait: Duration) -> Result<Answer> {
         let mut taken = self.take()?;
-        match taken.connection.exchange(call) {
+        match taken.connection.exchange(call, &self.end_of_answer(wait)) {
             Ok(answer) => {
                 self.put_back(taken);
                 Ok(answer)
@@ -151,9 +161,23 @@ impl Shared {
         }
     }
 
-    /// Finds the number that the space used last. `KernInvalidArgument` means that the server has no numbered requests,
+    /// Returns the number that the space used last. `KernInvalidArgument` means that the server has no numbered requests,
     /// or that the space has used all numbers.
     fn find_last_request(&self) -> Result<u32> {
+        let last = match self.exchange_repeated(&Call::new(wire::LAST_REQUEST, &[]))?.ok() {
+            Ok(results) if results.len() == 8 => wire::word(&results, 0),
+            Ok(_) => return Err(Error::MigReplyMismatch),
+            Err(Error::KernInvalidArgument) => self.search_last_request()?,
+            Err(other) => return Err(other),
+        };
+        if last >= u32::MAX - 1 {
+            return Err(Error::KernInvalidArgument);
+        }
+        Ok(last)
+    }
+
+    /// Returns the same number of a server that can't be asked for it.
+    fn search_last_request(&self) -> Result<u32> {
         if !self.is_new(u32::MAX)? {
             return Err(Error::KernInvalidArgument);
         }
@@ -165,9 +189,6 @@ impl Shared {
             } else {
                 used = middle;
             }
-        }
-        if used == u32::MAX - 1 {
-            return Err(Error::KernInvalidArgument);
         }
         Ok(used)
     }

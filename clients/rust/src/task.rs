@@ -2,12 +2,14 @@
 
 use std::collections::BTreeMap;
 use std::env;
-use std::path::PathBuf;
+use std::path::Path;
 use std::sync::atomic::{AtomicU64, Ordering};
 use std::sync::{Arc, Mutex};
 use std::time::Duration;
 
 use crate::connection::Route;
+use crate::deadline::answer_time;
+use crate::paths::Paths;
 use crate::rights::{Port, PortSet, ReceiveRight};
 use crate::shared::{Idle, Shared};
 use crate::wire::{self, Call};
@@ -56,15 +58,17 @@ impl Options {
         self
     }
 
-    /// Sets the time for which a numbered call is repeated after a cut; `None` is forever.
+    /// Sets the time for which a numbered call is repeated after a cut; `None` is forever. It decides the
+    /// [`Task::answer_time`] too.
     pub fn patience(mut self, patience: Option<Duration>) -> Options {
         self.patience = patience;
         self
     }
 
-    /// Connects to the server's socket.
-    pub fn connect(self, path: impl Into<PathBuf>) -> Result<Task> {
-        self.begin(Route::Path(path.into()), Name::NULL, 1)
+    /// Connects to the server's socket, as [`Task::connect`] does.
+    pub fn connect(self, path: impl AsRef<Path>) -> Result<Task> {
+        let paths = Paths::read(path.as_ref())?;
+        self.begin(Route::Paths(Arc::new(paths)), Name::NULL, 1)
     }
 
     /// Enters the task of the environment, as [`Task::adopt`] does.
@@ -77,10 +81,11 @@ impl Options {
                     .and_then(scm::packet_socket)
                     .ok_or(AdoptError::Environment("MACHIPC_FD"))?,
             ),
-            None => match env::var_os("MACHIPC_SOCKET") {
-                Some(path) if !path.is_empty() => Route::Path(path.into()),
-                _ => return Err(AdoptError::Environment("MACHIPC_SOCKET")),
-            },
+            None => {
+                let list = env::var_os("MACHIPC_SOCKET").unwrap_or_default();
+                let paths = Paths::read(Path::new(&list)).map_err(|_| AdoptError::Environment("MACHIPC_SOCKET"))?;
+                Route::Paths(Arc::new(paths))
+            }
         };
         let space = number("MACHIPC_SPACE")?;
         let bootstrap = Name(number("MACHIPC_BOOTSTRAP")?);
@@ -160,7 +165,10 @@ pub struct Task {
 
 impl Task {
     /// Connects to the server's socket, in the first space.
-    pub fn connect(path: impl Into<PathBuf>) -> Result<Task> {
+    ///
+    /// A list of up to four paths, `PATH1:PATH2`, leads to the first server that answers, within three seconds for each
+    /// path; in a path a `:` is written `\:`, and a backslash `\\`. `KernInvalidArgument`: it is no list.
+    pub fn connect(path: impl AsRef<Path>) -> Result<Task> {
         Options::new().connect(path)
     }
 
@@ -176,7 +184,9 @@ impl Task {
     pub fn in_space(&self, space: u32) -> Result<Task> {
         let options = Options { space, is_once: self.is_once(), patience: self.shared.patience };
         match &self.shared.route {
-            Route::Path(path) if !self.shared.is_confined() => options.connect(path),
+            Route::Paths(paths) if !self.shared.is_confined() => {
+                options.begin(Route::Paths(paths.clone()), Name::NULL, 1)
+            }
             _ => Err(Error::KernNoAccess),
         }
     }
@@ -204,6 +214,13 @@ impl Task {
     /// Returns the time for which a numbered call is repeated after a cut; `None` is forever.
     pub fn patience(&self) -> Option<Duration> {
         self.shared.patience
+    }
+
+    /// Returns the time within which the server has to answer a call that doesn't wait, and after which it has to answer one
+    /// that waits: a third of the patience, from 3 to 10 seconds. A later answer counts as a cut, and the call fails as
+    /// [`Error::is_cut`] knows; over a path that is cut no answer comes.
+    pub fn answer_time(&self) -> Duration {
+        answer_time(self.shared.patience)
     }
 
     /// Returns the number of calls that were repeated after a cut and then answered.

@@ -2,7 +2,9 @@
 //! byte first.
 
 use std::io::{self, Read};
+use std::os::unix::net::UnixStream;
 
+use crate::deadline::Deadline;
 use crate::{Error, Result};
 
 pub(crate) const ATTACH: u32 = 0;
@@ -29,6 +31,7 @@ pub(crate) const SPACE_CREATE: u32 = 20;
 pub(crate) const SPACE_DESTROY: u32 = 21;
 pub(crate) const NUMBERED: u32 = 22;
 pub(crate) const CONFINE: u32 = 23;
+pub(crate) const LAST_REQUEST: u32 = 24;
 
 pub(crate) const SEND_MSG: u32 = 1;
 pub(crate) const RCV_MSG: u32 = 2;
@@ -128,16 +131,30 @@ impl Answer {
 }
 
 /// Reads a frame, without its length.
-pub(crate) fn read_frame(stream: &mut impl Read) -> io::Result<Vec<u8>> {
+pub(crate) fn read_frame(stream: &UnixStream, end: &Deadline) -> io::Result<Vec<u8>> {
     let mut length = [0; 4];
-    stream.read_exact(&mut length)?;
+    read(stream, &mut length, end)?;
     let length = u32::from_le_bytes(length) as usize;
     if !(4..=LONGEST).contains(&length) {
         return Err(io::ErrorKind::InvalidData.into());
     }
     let mut content = vec![0; length];
-    stream.read_exact(&mut content)?;
+    read(stream, &mut content, end)?;
     Ok(content)
+}
+
+fn read(mut stream: &UnixStream, mut rest: &mut [u8], end: &Deadline) -> io::Result<()> {
+    while !rest.is_empty() {
+        stream.set_read_timeout(end.left_for_socket())?;
+        match stream.read(rest) {
+            Ok(0) => return Err(io::ErrorKind::UnexpectedEof.into()),
+            Ok(count) => rest = &mut rest[count..],
+            Err(fault) if fault.kind() == io::ErrorKind::Interrupted => {}
+            Err(fault) if fault.kind() == io::ErrorKind::WouldBlock => return Err(io::ErrorKind::TimedOut.into()),
+            Err(fault) => return Err(fault),
+        }
+    }
+    Ok(())
 }
 
 /// Returns the word at a place, which has to be within the bytes.

@@ -197,14 +197,14 @@ fn sets() {
 fn watches() {
     let task = task();
     let port = task.allocate().unwrap();
-    let ended = task.watch(port.name(), Some(Duration::from_millis(10))).unwrap().finish();
+    let ended = task.watch(port.name(), Duration::from_millis(10)).unwrap().finish();
     assert_eq!(ended, Err(Error::MachRcvTimedOut));
-    drop(task.watch(port.name(), None).unwrap());
-    let watch = task.watch(port.name(), None).unwrap();
+    drop(task.watch(port.name(), task.answer_time()).unwrap());
+    let watch = task.watch(port.name(), task.answer_time()).unwrap();
     port.send(Message::new(1), None).unwrap();
     assert_eq!(watch.finish(), Ok(()));
     assert_eq!(port.receive(NOW).unwrap().id(), 1);
-    let watch = task.watch(port.name(), None).unwrap();
+    let watch = task.watch(port.name(), task.answer_time()).unwrap();
     drop(port);
     assert!(matches!(watch.finish(), Err(Error::MachRcvPortDied | Error::MachRcvInvalidName)));
 }

@@ -9,7 +9,7 @@ use machipc::{Error, Message, Task};
 
 static NUMBER: AtomicU32 = AtomicU32::new(0);
 
-/// Returns the error of a call on a server that gives this reply to the first frame of each connection.
+/// Returns the error of a call on a server that takes one connection, attaches it and gives this reply to its next frame.
 fn failed<T: std::fmt::Debug>(reply: &[u8], call: impl FnOnce(&Task) -> Result<T, Error>) -> Error {
     let number = NUMBER.fetch_add(1, Ordering::Relaxed);
     let path = std::env::temp_dir().join(format!("machipc-{}-{number}", std::process::id()));
@@ -17,8 +17,10 @@ fn failed<T: std::fmt::Debug>(reply: &[u8], call: impl FnOnce(&Task) -> Result<T
     let reply = reply.to_vec();
     let server = thread::spawn(move || {
         let (mut peer, _) = listener.accept().unwrap();
-        let _ = peer.read(&mut [0; 9000]);
-        let _ = peer.write_all(&reply);
+        for answer in [frame(&[8, 0, 0]), reply] {
+            let _ = peer.read(&mut [0; 9000]);
+            let _ = peer.write_all(&answer);
+        }
     });
     let failed = call(&Task::connect(&path).unwrap()).unwrap_err();
     server.join().unwrap();

@@ -1,0 +1,27 @@
+//! Calls of a task whose server moves from one path to another. `clients/test` cuts the paths, reads what this prints, and
+//! writes a line when it continues.
+
+use std::io;
+use std::time::Duration;
+
+use machipc::{Disposition, Error, Message, Options, ReceiveOptions};
+
+#[test]
+#[ignore = "clients/test runs it"]
+fn moved() {
+    let options = Options::new().patience(Some(Duration::from_secs(12)));
+    let task = options.once(true).adopt().unwrap();
+    let port = task.bootstrap().name();
+    println!("\nport {} {}", task.space(), port.0);
+    println!("got {}", task.receive(port, &ReceiveOptions::default()).unwrap().id());
+    io::stdin().read_line(&mut String::new()).unwrap();
+    let made = task.allocate().unwrap().forget();
+    println!("made {}", made.0);
+    let task = options.adopt().unwrap();
+    println!("plain");
+    let reply = task.send_receive(port, Disposition::MakeSend, Message::new(8), made, None).unwrap();
+    println!("replied {}", reply.id());
+    let cut = task.receive(made, &ReceiveOptions::default()).unwrap_err();
+    assert_eq!(cut, Error::MachRcvInterrupted(io::ErrorKind::TimedOut));
+    println!("cut");
+}
