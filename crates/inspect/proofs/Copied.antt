@@ -1,9 +1,10 @@
 -- The contents of a copy's disk.
-use Rattle.std.proofs.Common.{◌≡◌, inl, ℕ, [], Result, Ok, Err, refl, sym, ap, subst, ◌∙◌, arith}
+use Rattle.std.proofs.Common.{◌≡◌, inl, ℕ, List, [], Result, Ok, Err, refl, sym, ap, subst, ◌∙◌, arith}
+use Rattle.std.specs.Prelude.{OnOk}
 use Rattle.disk.specs.Moments.{View}
-use Rattle.disk.specs.Slots.{Slots}
+use Rattle.disk.specs.Slots.{Slots, empty_slots}
 use Rattle.checkpoint.specs.Images.{ImageValue, open_image, unwritten}
-use Rattle.inspect.specs.Copied.{IsCopyOf, IsImageOfRows, of_list, store_of}
+use Rattle.inspect.specs.Copied.{CopiesInto, IsCopyOf, IsImageOfRows, IsPartOf, of_list, store_of}
 use Rattle.inspect.specs.declared.copying.CopyStoreFault.{CopyStoreFault}
 use Rattle.inspect.specs.declared.copying.CopyStoreFault.TheVariants as copied
 use Rattle.inspect.specs.declared.fault.ListFault.{ListFault}
@@ -86,3 +87,18 @@ is_copy honest slots look image new given looked imaged made rest =
           (copy_stands imaged.state imaged.holds));
       at_rest = rest;
     }
+
+-- a store that was copied to the disk of a folder
+pub copies_into : {D : Type 0} (is_read honest : Type 0) (slots : Slots) (view : D → View) (path_of : D → List ℕ)
+    (path : List ℕ) (before after : D) (r : Result (Unit {0}) CopyStoreFault) → path_of before ≡ path
+    → (is_read → honest → (view before).seen ≡ empty_slots → OnOk r (IsCopyOf slots (view after)))
+    → OnOk r (CopiesInto is_read honest slots view path_of path)
+copies_into is_read honest slots view path_of path before after (Ok done) there copied =
+    record { before = before; after = after; is_there = there; copied = copied }
+copies_into is_read honest slots view path_of path before after (Err fault) there copied = tt
+
+-- the same, under the path of a copy's part
+pub copies_part : (r : Result (Unit {0}) CopyStoreFault) (path part : List ℕ) (P : List ℕ → Type 0) → IsPartOf path part
+    → OnOk r (P part) → OnOk r ((name : List ℕ) × IsPartOf path name × P name)
+copies_part (Ok done) path part P is copied = (part, is, copied)
+copies_part (Err fault) path part P is copied = tt

@@ -1,9 +1,11 @@
 -- The outcome of printing a store, at each exit.
-use Rattle.std.proofs.Common.{◌≡◌, ◌⊎◌, inl, inr, ℕ, List, Option, Result, Ok, Err, subst}
+use Rattle.std.proofs.Common.{◌≡◌, ◌⊎◌, inl, inr, ℕ, List, [], ◌∷◌, Option, Some, Result, Ok, Err, refl, subst}
 use Rattle.std.specs.Prelude.{◌≢◌, IfErr, IsErrOf, OnErr, OnOk}
 use Rattle.std.specs.Io.KnownBytes.{Appends, Keeps}
 use Rattle.disk.specs.Moments.{ReadsOnly, View, one_more}
 use Rattle.inspect.specs.Printed.{IsOfLook, PrintsText, ReadsStore}
+use Rattle.inspect.specs.Program.{Prints}
+use Rattle.inspect.specs.declared.program.ShowEnd.TheVariants.{Fault}
 use Rattle.inspect.specs.declared.fault.ListFault.{ListFault}
 use Rattle.inspect.specs.declared.fault.ListFault.TheVariants.{Store, Busy, Write}
 use Rattle.ipc_model.specs.store.Recovery.{IsDamaged, IsOtherVersion}
@@ -93,3 +95,11 @@ prints_as IsText IsOther old new (Err f) turn prints = record {
   part = λ same. let part = prints.part same in (part.0, turn part.0 part.1, part.2);
   unwritten = prints.unwritten;
 }
+
+-- a run of a program that failed
+pub prints_fault : (IsOf : List ℕ → List ℕ → Type 0) (words : Option (List (List ℕ))) (old new : Option (List ℕ))
+    (path : List ℕ) (fault : ListFault) → words ≡ Some (path ∷ []) → PrintsText (IsOf path) old new (Err fault)
+    → Prints IsOf words old new (Fault fault)
+prints_fault IsOf words old new path Write named prints = (path, named, prints.part refl)
+prints_fault IsOf words old new path Busy named prints = ((path, named), prints.unwritten (λ same. cc same))
+prints_fault IsOf words old new path (Store fault) named prints = ((path, named), prints.unwritten (λ same. cc same))

@@ -5,7 +5,8 @@ use Rattle.std.specs.Io.KnownBytes.{Appends}
 use Rattle.std.proofs.KnownBytes.{Appends-trans}
 use Rattle.disk.specs.Moments.{ReadsOnly, View}
 use Rattle.server.specs.Keeping.{AloneValue, AnswersAsked, BreaksKept, FailsAsked, IsHeld, RestsKept}
-use Rattle.server.specs.Program.{IsRun, IsUnopenable, RunsInFolder, ServesFrom}
+use Rattle.server.specs.Program.{EndsAlone, IsRun, IsUnopenable, RunsInFolder, ServesFrom}
+use Rattle.server.specs.declared.program.LoneEnd.{LoneEnd}
 use Rattle.frame_service.specs.Serving.{Ends}
 use Rattle.frame_service.specs.declared.service.ServeFault.{ServeFault}
 use Rattle.frame_service.specs.declared.service.ServeFault.TheVariants.{Store}
@@ -137,3 +138,12 @@ module _ {D : Type 0} (honest : Type 0) (view : D → View) (o p left written : 
         unread = unread ∙ read;
         unwritten = unwritten ∙ wrote;
       }))
+
+-- how the program ends, for arguments that are these
+pub ends_named : {D : Type 0} (honest : Type 0) (view : D → View) (o p left written : Option (List ℕ))
+    (path_of : D → List ℕ) (words these : Option (List (List ℕ))) (end : LoneEnd) → words ≡ these
+    → IfSome o (λ input. IfSome p (λ before. EndsAlone honest view input before left written path_of these end))
+    → IfSome o (λ input. IfSome p (λ before. EndsAlone honest view input before left written path_of words end))
+ends_named honest view o p left written path_of words these end same ends =
+    subst (λ (w : Option (List (List ℕ))). IfSome o
+    (λ input. IfSome p (λ before. EndsAlone honest view input before left written path_of w end))) (sym same) ends

@@ -4,3 +4,4 @@ mod Making
 mod Confining
 mod Crashing
 mod Staying
+mod Words
