@@ -97,8 +97,8 @@ kern_return_t machipc_once(machipc_space_t space);
  *
  * With several paths, in each mode, the server has to answer a call within a third of this time (3 to 10 seconds). A call
  * that waits for a message or for room is made again as often. A later answer is a loss, as over a path that is cut. So a
- * receive without a timeout notices a cut within two thirds of the patience. With one path a call waits until it
- * is answered, as on a server whose disk hangs, and the connection is made within this time (at least 3 seconds).
+ * receive without a timeout notices a cut within two thirds of the patience. With one path a call waits until it is
+ * answered, as on a server whose disk hangs, and the connection is made within this time (at least 3 seconds).
  */
 void machipc_set_patience(uint32_t milliseconds);
 
