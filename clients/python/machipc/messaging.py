@@ -81,7 +81,8 @@ class Messaging(Exchange):
                 raise MACH_RCV_INTERRUPTED(*fault.args) from None
             if code == MACH_RCV_TIMED_OUT.code and option & wire.SEND_MSG:
                 option, text = option & ~wire.SEND_MSG, b""
-                wait = Deadline(total(timeout, part and -part))  # the receive has begun with this part
+                # The receive has begun with this part.
+                wait = Deadline(None if timeout is None or part is None else timeout - part)
             if wait.left() == 0 or code not in (MACH_SEND_TIMED_OUT.code, MACH_RCV_TIMED_OUT.code):
                 return code, results
 

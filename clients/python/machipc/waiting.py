@@ -24,12 +24,14 @@ def answer_time(patience: Optional[float], has_other_paths: bool) -> Optional[fl
 def path_time(patience: Optional[float], has_other_paths: bool) -> Optional[float]:
     """Returns the seconds within which a path has to lead to a server: PATH_TIME, or the patience if there is no other
     path."""
-    return PATH_TIME if has_other_paths else patience and max(patience, PATH_TIME)
+    if has_other_paths:
+        return PATH_TIME
+    return None if patience is None else max(patience, PATH_TIME)
 
 
 def earlier(one: Optional[float], other: Optional[float]) -> Optional[float]:
     """Returns the lesser of two times, of which None is forever."""
-    return other if one is None else one if other is None else min(one, other)
+    return min((it for it in (one, other) if it is not None), default=None)
 
 
 def total(one: Optional[float], other: Optional[float]) -> Optional[float]:
