@@ -1,7 +1,9 @@
 #!/usr/bin/env python3
-"""Calls of a task whose server moves from one path to another, or answers late: tests_paths.py moved|late [async].
+"""Calls of a task whose server moves from one path to another, answers late, or is killed after a long wait:
+tests_paths.py moved|late|idle [async].
 
-clients/test cuts the paths or holds the answers back, reads what this prints, and writes a line when it continues.
+clients/test cuts the paths, holds the answers back or kills the server, reads what this prints, and writes a line when it
+continues.
 """
 
 import asyncio
@@ -12,7 +14,7 @@ sys.path.insert(0, str(pathlib.Path(__file__).resolve().parent))
 
 from machipc import *  # noqa: E402,F403
 
-PATIENCE, SHORTER_PATIENCE = 12.0, 9.0
+PATIENCE, SHORTER_PATIENCE, SHORTEST_PATIENCE = 12.0, 9.0, 5.0
 
 
 def say(*words):
@@ -87,9 +89,22 @@ async def late_async():
     await task.close()
 
 
+def idle():
+    task = Task.adopt(once=True, patience=SHORTEST_PATIENCE)
+    say("port", task.space, task.bootstrap)
+    say("got", task.receive(task.bootstrap).id)
+
+
+async def idle_async():
+    task = await AsyncTask.adopt(once=True, patience=SHORTEST_PATIENCE)
+    say("port", task.space, task.bootstrap)
+    say("got", (await task.receive(task.bootstrap)).id)
+    await task.close()
+
+
 if __name__ == "__main__":
     what, is_async = sys.argv[1], sys.argv[2:] == ["async"]
     if is_async:
-        asyncio.run({"moved": moved_async, "late": late_async}[what]())
+        asyncio.run({"moved": moved_async, "late": late_async, "idle": idle_async}[what]())
     else:
-        {"moved": moved, "late": late}[what]()
+        {"moved": moved, "late": late, "idle": idle}[what]()

@@ -1,9 +1,9 @@
 /*
- * paths moved|late [events]
+ * paths moved|late|idle [events]
  *
- * Calls of a task whose server moves from one path to another, or answers late. clients/test cuts the paths or holds the
- * answers back, reads what this prints, and writes a line when it continues. With `events` the receives are those of an
- * event loop.
+ * Calls of a task whose server moves from one path to another, answers late, or is killed after a long wait. clients/test
+ * cuts the paths, holds the answers back or kills the server, reads what this prints, and writes a line when it continues.
+ * With `events` the receives are those of an event loop.
  */
 
 #include "check.h"
@@ -12,7 +12,7 @@
 #include <stdio.h>
 #include <string.h>
 
-enum { PATIENCE = 12000, SHORTER_PATIENCE = 9000 };
+enum { PATIENCE = 12000, SHORTER_PATIENCE = 9000, SHORTEST_PATIENCE = 5000 };
 
 static bool by_events;
 
@@ -75,6 +75,18 @@ static void late(void) {
     printf("got %d\n", message.msgh_id);
 }
 
+/* A numbered receive whose wait is cut when it has taken longer than the patience. */
+static void idle(void) {
+    machipc_task_t task = {0};
+    mach_msg_header_t message = {0};
+    machipc_set_patience(SHORTEST_PATIENCE);
+    CHECK_OK(machipc_adopt(&task));
+    CHECK_OK(machipc_once(task.space));
+    printf("port %u %u\n", (unsigned) task.space, (unsigned) task.bootstrap);
+    CHECK_OK(receive(&message, task.bootstrap));
+    printf("got %d\n", message.msgh_id);
+}
+
 static void moved(void) {
     machipc_task_t task = {0};
     mach_msg_header_t message = {0};
@@ -104,6 +116,8 @@ int main(int count, char **words) {
     setvbuf(stdout, NULL, _IOLBF, 0);
     if (count > 1 && strcmp(words[1], "late") == 0) {
         late();
+    } else if (count > 1 && strcmp(words[1], "idle") == 0) {
+        idle();
     } else {
         moved();
     }

@@ -1,5 +1,6 @@
-//! Receives of a task whose server moves from one path to another, or answers late. `clients/test` cuts the paths or holds the
-//! answers back, reads what this prints, and writes a line when it continues.
+//! Receives of a task whose server moves from one path to another, answers late, or is killed after a long wait.
+//! `clients/test` cuts the paths, holds the answers back or kills the server, reads what this prints, and writes a line when
+//! it continues.
 
 use std::io;
 use std::time::Duration;
@@ -62,4 +63,20 @@ async fn be_late() {
 #[ignore = "clients/test runs it"]
 fn late() {
     tokio::runtime::Builder::new_current_thread().enable_all().build().unwrap().block_on(be_late());
+}
+
+async fn be_idle() {
+    let options = Options::new().patience(Some(Duration::from_secs(5))).once(true);
+    let task = call(move || options.adopt()).await.unwrap();
+    let port = task.bootstrap().name();
+    println!("\nport {} {}", task.space(), port.0);
+    let receiver = Receiver::new(ReceiveRight::from_name(&task, port));
+    println!("got {}", receiver.receive(None).await.unwrap().id());
+    std::mem::forget(receiver);
+}
+
+#[test]
+#[ignore = "clients/test runs it"]
+fn idle() {
+    tokio::runtime::Builder::new_current_thread().enable_all().build().unwrap().block_on(be_idle());
 }

@@ -1,5 +1,5 @@
-//! Calls of a task whose server moves from one path to another, or answers late. `clients/test` cuts the paths or holds the
-//! answers back, reads what this prints, and writes a line when it continues.
+//! Calls of a task whose server moves from one path to another, answers late, or is killed after a long wait. `clients/test`
+//! cuts the paths, holds the answers back or kills the server, reads what this prints, and writes a line when it continues.
 
 use std::io;
 use std::time::Duration;
@@ -45,4 +45,13 @@ fn late() {
     io::stdin().read_line(&mut String::new()).unwrap();
     println!("made {}", until_answered(|| task.allocate()).forget().0);
     println!("got {}", until_answered(|| task.receive(port, &ReceiveOptions::default())).id());
+}
+
+#[test]
+#[ignore = "clients/test runs it"]
+fn idle() {
+    let task = Options::new().patience(Some(Duration::from_secs(5))).once(true).adopt().unwrap();
+    let port = task.bootstrap().name();
+    println!("\nport {} {}", task.space(), port.0);
+    println!("got {}", task.receive(port, &ReceiveOptions::default()).unwrap().id());
 }
