@@ -236,9 +236,16 @@ class FileSystem:
         self.name, self.type, self.make, self.options, self.megabytes = name, type_, make, options, megabytes
 
     def lacking(self):
-        if self.type not in pathlib.Path("/proc/filesystems").read_text().split():
+        if not self.is_known():
+            # The file system may be a module that isn't loaded.
+            with contextlib.suppress(FileNotFoundError):
+                subprocess.run(["modprobe", self.type], capture_output=True)
+        if not self.is_known():
             return f"{self.type} in the kernel"
         return lacking(self.make[0])
+
+    def is_known(self):
+        return self.type in pathlib.Path("/proc/filesystems").read_text().split()
 
     def format(self, image):
         with contextlib.suppress(FileNotFoundError):
