@@ -180,7 +180,8 @@ class Log:
             for entry in self.entries[self.applied : first]:
                 self.put(base, entry)
         self.applied = max(self.applied, first)
-        subprocess.run(["cp", "--sparse=auto", self.base, image], check=True)
+        # A new file, so that `mount` can't take a loop device that still has the last image.
+        subprocess.run(["cp", "--remove-destination", "--sparse=auto", self.base, image], check=True)
         later = [it for it in self.entries[first:moment] if it[1]]
         part, tears = chance.choice([0, 0.2, 0.5, 0.8, 1]), 0
         with open(image, "r+b", buffering=0) as made:
