@@ -45,7 +45,8 @@ def write(chance, folder, seconds):
 
 def copy(folder, made):
     """Copies the files as machcp does, in place of an earlier copy."""
-    shutil.rmtree(made, ignore_errors=True)
+    for it in (made, made + ".part"):  # the second one is left by a loss
+        shutil.rmtree(it, ignore_errors=True)
     os.mkdir(made + ".part")
     for name in NAMES:
         shutil.copyfile(f"{folder}/{name}", f"{made}.part/{name}")
@@ -76,11 +77,11 @@ def write_logged(kind, image, mounted, chance, seconds, writers):
             it.start()
         for it in running:
             it.join()
-            if it.exitcode:
-                raise Difference("a process can't write")
         unmount(mounted)
     finally:
         device.detach()
+    if any(it.exitcode for it in running):
+        raise Difference("a process can't write")
     return Log(device, image + ".base")
 
 
