@@ -7,6 +7,7 @@ import collections
 import multiprocessing
 import os
 import random
+import re
 import shutil
 import subprocess
 import time
@@ -86,12 +87,13 @@ def write_logged(kind, image, mounted, chance, seconds, writers):
 
 
 class Bare:
-    """Counts the images that don't mount. `said` has the kernel's words on those without torn writes."""
+    """Counts the images that don't mount. `said` has the kernel's words on those without torn writes, and `reasons` counts its last
+    lines."""
 
     def __init__(self, kind, folder, chance):
         self.kind, self.chance = kind, chance
         self.image, self.mounted = f"{folder}/loss", f"{folder}/mounted"
-        self.counts, self.said = collections.Counter(), []
+        self.counts, self.reasons, self.said = collections.Counter(), collections.Counter(), []
 
     def run(self, losses):
         disk = self.image + ".disk"
@@ -113,6 +115,7 @@ class Bare:
         self.counts[kind] += 1
         if reason:
             self.counts[f"{kind}, not mounted"] += 1
+            self.reasons[re.sub(r"^\[.*?\] | \(\w+\)", "", reason.splitlines()[-1])] += 1
             self.said += [] if tears else [f"{kind}, at entry {moment}: {reason}"]
         else:
             unmount(self.mounted)
@@ -131,4 +134,4 @@ class Bare:
         parts = []
         for what in ("loss, torn", "loss, whole", "second, torn", "second, whole"):
             parts.append(f"{what}: {self.counts[f'{what}, not mounted']} of {self.counts[what]}")
-        return "; ".join(parts)
+        return "; ".join(parts + [f"{count} times: {reason}" for reason, count in self.reasons.items()])
