@@ -1,5 +1,5 @@
-"""Relays in front of a server's socket, for tests of the clients: one that cuts connections at random, and one that is cut
-off from the server for a time.
+"""Relays in front of a server's socket, for tests of the clients: one that cuts connections at random, one that is cut off
+from the server for a time, and one whose answers are late.
 
 At random a connection may be cut before the server has the frame, or after the call was made, with the reply lost as a whole or
 in part. The client may repeat the call on another connection while the first one is still being executed, and a
@@ -13,6 +13,7 @@ import select
 import socket
 import struct
 import threading
+import time
 
 CUTS = ("before", "at once", "after", "within", "waiting")
 
@@ -127,6 +128,27 @@ class Full:
         for it in self.sockets:
             it.close()
         os.unlink(self.path)
+
+
+class Late(Relay):
+    """A relay that passes each answer on only after some seconds, except those to `spared` calls."""
+
+    def __init__(self, path, server_path, spared):
+        super().__init__(path, server_path)
+        self.seconds, self.spared = 0, spared
+
+    def serve(self, client):
+        with contextlib.suppress(OSError), client, socket.socket(socket.AF_UNIX) as server:
+            server.connect(self.server_path)
+            while frame := read_frame(client):
+                server.sendall(frame)
+                readable, _, _ = select.select([client, server], [], [])
+                reply = read_frame(server) if server in readable else None
+                if not reply:
+                    return
+                if struct.unpack_from("<I", frame, 4)[0] not in self.spared:
+                    time.sleep(self.seconds)
+                client.sendall(reply)
 
 
 class Cutting(Relay):

@@ -16,11 +16,13 @@ static uint64_t nowhere[4], *counts = nowhere;
 __attribute__((constructor)) static void begin(void) {
     const char *path = getenv("COUNT_AT");
     int file = path ? open(path, O_RDWR | O_CREAT, 0600) : -1;
-    if (file < 0 || ftruncate(file, sizeof nowhere))
+    if (file < 0 || ftruncate(file, sizeof nowhere)) {
         return;
+    }
     void *at = mmap(NULL, sizeof nowhere, PROT_READ | PROT_WRITE, MAP_SHARED, file, 0);
-    if (at != MAP_FAILED)
+    if (at != MAP_FAILED) {
         counts = at;
+    }
     close(file);
 }
 
@@ -31,16 +33,18 @@ static void count(int what, size_t size) {
 
 void *malloc(size_t size) {
     static void *(*next)(size_t);
-    if (!next)
-        next = (void *(*)(size_t))dlsym(RTLD_NEXT, "malloc");
+    if (!next) {
+        next = (void *(*) (size_t)) dlsym(RTLD_NEXT, "malloc");
+    }
     count(0, size);
     return next(size);
 }
 
 void *realloc(void *block, size_t size) {
     static void *(*next)(void *, size_t);
-    if (!next)
-        next = (void *(*)(void *, size_t))dlsym(RTLD_NEXT, "realloc");
+    if (!next) {
+        next = (void *(*) (void *, size_t)) dlsym(RTLD_NEXT, "realloc");
+    }
     count(0, size);
     return next(block, size);
 }
@@ -56,11 +60,14 @@ void *memmove(void *to, const void *from, size_t size) {
     char *at = to;
     const char *source = from;
     count(2, size);
-    if (at <= source || at >= source + size)
-        while (size--)
+    if (at <= source || at >= source + size) {
+        while (size--) {
             *at++ = *source++;
-    else
-        while (size--)
+        }
+    } else {
+        while (size--) {
             at[size] = source[size];
+        }
+    }
     return to;
 }

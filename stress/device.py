@@ -209,11 +209,15 @@ class Log:
 
 
 def mount(kind, path, folder):
-    """Mounts the file system in a file through a loop device, which unmounting removes. Returns true if it mounts."""
+    """Mounts the file system in a file through a loop device, which unmounting removes. Returns an empty text if it mounts, and
+    otherwise the reason, with the kernel's last lines."""
     os.makedirs(folder, exist_ok=True)
     options = ",".join(["loop", *([kind.options] if kind.options else [])])
     ran = subprocess.run(["mount", "-t", kind.type, "-o", options, path, folder], capture_output=True, text=True)
-    return ran.returncode == 0
+    if not ran.returncode:
+        return ""
+    told = subprocess.run(["dmesg"], capture_output=True, text=True).stdout.splitlines()[-5:]
+    return "\n".join([ran.stderr.strip(), *told])
 
 
 def unmount(folder):

@@ -36,8 +36,9 @@ static const char *word(const char *name) {
 
 static int open_next(const char *path, int flags, mode_t mode) {
     static int (*next)(const char *, int, ...);
-    if (!next)
-        next = (int (*)(const char *, int, ...))dlsym(RTLD_NEXT, "open");
+    if (!next) {
+        next = (int (*)(const char *, int, ...)) dlsym(RTLD_NEXT, "open");
+    }
     return next(path, flags, mode);
 }
 
@@ -47,7 +48,7 @@ __attribute__((constructor)) static void begin(void) {
     told = word("FAULT_TOLD");
     syncs = word("FAULT_SYNC");
     first = strtoul(word("FAULT_AT"), NULL, 10);
-    error = atoi(word("FAULT_ERROR"));
+    error = (int) strtol(word("FAULT_ERROR"), NULL, 10);
     is_once = *word("FAULT_ONCE") != 0;
     names = word("FAULT_NAMES");
     if (*names) {
@@ -57,7 +58,9 @@ __attribute__((constructor)) static void begin(void) {
     }
 }
 
-static int is_below(const char *path) { return *folder && !strncmp(path, folder, strlen(folder)); }
+static int is_below(const char *path) {
+    return *folder && !strncmp(path, folder, strlen(folder));
+}
 
 static void find_path(int file, char *path, size_t size) {
     char link[64];
@@ -87,22 +90,27 @@ static void note(const char *what, unsigned long when, const char *path) {
 /* Returns the outcome of a call, and sets errno. */
 static int fate(const char *name) {
     unsigned long number;
-    if (strcmp(name, failing))
+    if (strcmp(name, failing)) {
         return NOTHING;
+    }
     number = __atomic_add_fetch(&count, 1, __ATOMIC_SEQ_CST);
-    if (number < first || (is_once && number > first))
+    if (number < first || (is_once && number > first)) {
         return NOTHING;
-    if (*told)
+    }
+    if (*told) {
         close(open_next(told, O_CREAT | O_WRONLY, 0600));
+    }
     errno = error ? error : EINTR;
     return error ? FAILS : PARTLY;
 }
 
 static int opened(const char *path, int flags, mode_t mode) {
-    if (is_below(path) && fate("open"))
+    if (is_below(path) && fate("open")) {
         return -1;
-    if (*names && is_below(path) && (flags & O_CREAT) && access(path, F_OK))
+    }
+    if (*names && is_below(path) && (flags & O_CREAT) && access(path, F_OK)) {
         note("made", *counted, path);
+    }
     return open_next(path, flags, mode);
 }
 
@@ -125,8 +133,9 @@ int open64(const char *path, int flags, ...) {
 ssize_t read(int file, void *bytes, size_t size) {
     static ssize_t (*next)(int, void *, size_t);
     int met;
-    if (!next)
-        next = (ssize_t(*)(int, void *, size_t))dlsym(RTLD_NEXT, "read");
+    if (!next) {
+        next = (ssize_t(*)(int, void *, size_t)) dlsym(RTLD_NEXT, "read");
+    }
     met = !strcmp(failing, "read") && is_ours(file) ? fate("read") : NOTHING;
     return met == FAILS ? -1 : next(file, bytes, met == PARTLY && size ? 1 : size);
 }
@@ -135,37 +144,45 @@ ssize_t read(int file, void *bytes, size_t size) {
 static void open_gate(int file, size_t size) {
     static int (*next)(int);
     off_t at = lseek(file, 0, SEEK_CUR);
-    if (!next)
-        next = (int (*)(int))dlsym(RTLD_NEXT, "fsync");
-    if (size > 13 && at > 16 && pwrite(file, "\x5a", 1, at - 1) == 1)
+    if (!next) {
+        next = (int (*)(int)) dlsym(RTLD_NEXT, "fsync");
+    }
+    if (size > 13 && at > 16 && pwrite(file, "\x5a", 1, at - 1) == 1) {
         next(file);
+    }
 }
 
 ssize_t write(int file, const void *bytes, size_t size) {
     static ssize_t (*next)(int, const void *, size_t);
     int met;
-    if (!next)
-        next = (ssize_t(*)(int, const void *, size_t))dlsym(RTLD_NEXT, "write");
-    if (!strcmp(syncs, "gate") && is_ours(file))
+    if (!next) {
+        next = (ssize_t(*)(int, const void *, size_t)) dlsym(RTLD_NEXT, "write");
+    }
+    if (!strcmp(syncs, "gate") && is_ours(file)) {
         open_gate(file, size);
+    }
     met = !strcmp(failing, "write") && is_ours(file) ? fate("write") : NOTHING;
     return met == FAILS ? -1 : next(file, bytes, met == PARTLY && size ? 1 : size);
 }
 
 static int is_left_out(int file) {
-    if (!strcmp(syncs, "second"))
+    if (!strcmp(syncs, "second")) {
         return __atomic_add_fetch(&seconds, 1, __ATOMIC_SEQ_CST) % 2 == 0;
-    if (!strcmp(syncs, "folder"))
+    }
+    if (!strcmp(syncs, "folder")) {
         return is_folder(file);
+    }
     return !strcmp(syncs, "all");
 }
 
 static int synced(int file, const char *name) {
-    int (*next)(int) = (int (*)(int))dlsym(RTLD_NEXT, name);
-    if (is_ours(file) && is_left_out(file))
+    int (*next)(int) = (int (*)(int)) dlsym(RTLD_NEXT, name);
+    if (is_ours(file) && is_left_out(file)) {
         return 0;
-    if (is_ours(file) && fate("fsync"))
+    }
+    if (is_ours(file) && fate("fsync")) {
         return -1;
+    }
     int result = next(file);
     if (*names && !result && is_folder(file)) {
         char path[4096];
@@ -175,14 +192,21 @@ static int synced(int file, const char *name) {
     return result;
 }
 
-int fsync(int file) { return synced(file, "fsync"); }
-int fdatasync(int file) { return synced(file, "fdatasync"); }
+int fsync(int file) {
+    return synced(file, "fsync");
+}
+int fdatasync(int file) {
+    return synced(file, "fdatasync");
+}
 
 int ftruncate(int file, off_t length) {
     static int (*next)(int, off_t);
-    if (!next)
-        next = (int (*)(int, off_t))dlsym(RTLD_NEXT, "ftruncate");
+    if (!next) {
+        next = (int (*)(int, off_t)) dlsym(RTLD_NEXT, "ftruncate");
+    }
     return is_ours(file) && fate("ftruncate") ? -1 : next(file, length);
 }
 
-int ftruncate64(int file, off_t length) { return ftruncate(file, length); }
+int ftruncate64(int file, off_t length) {
+    return ftruncate(file, length);
+}

@@ -20,24 +20,28 @@ __attribute__((constructor)) static void begin(void) {
 
 static int is_refused(void) {
     const char *path;
-    if (__atomic_add_fetch(&count, 1, __ATOMIC_SEQ_CST) != refused)
+    if (__atomic_add_fetch(&count, 1, __ATOMIC_SEQ_CST) != refused) {
         return 0;
-    if ((path = getenv("REFUSE_TOLD")))
+    }
+    if ((path = getenv("REFUSE_TOLD"))) {
         close(open(path, O_CREAT | O_WRONLY, 0600));
+    }
     return 1;
 }
 
 void *malloc(size_t size) {
     static void *(*next)(size_t);
-    if (!next)
-        next = (void *(*)(size_t))dlsym(RTLD_NEXT, "malloc");
+    if (!next) {
+        next = (void *(*) (size_t)) dlsym(RTLD_NEXT, "malloc");
+    }
     return is_refused() ? NULL : next(size);
 }
 
 void *realloc(void *block, size_t size) {
     static void *(*next)(void *, size_t);
-    if (!next)
-        next = (void *(*)(void *, size_t))dlsym(RTLD_NEXT, "realloc");
+    if (!next) {
+        next = (void *(*) (void *, size_t)) dlsym(RTLD_NEXT, "realloc");
+    }
     return is_refused() ? NULL : next(block, size);
 }
 
@@ -47,7 +51,8 @@ int flock(int file, int how) {
         errno = ENOLCK;
         return -1;
     }
-    if (!next)
-        next = (int (*)(int, int))dlsym(RTLD_NEXT, "flock");
+    if (!next) {
+        next = (int (*)(int, int)) dlsym(RTLD_NEXT, "flock");
+    }
     return next(file, how);
 }

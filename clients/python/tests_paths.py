@@ -1,7 +1,9 @@
 #!/usr/bin/env python3
-"""Calls of a task whose server moves from one path to another: tests_paths.py [async].
+"""Calls of a task whose server moves from one path to another, answers late, or is killed after a long wait:
+tests_paths.py moved|late|idle [async].
 
-clients/test cuts the paths, reads what this prints, and writes a line when it continues.
+clients/test cuts the paths, holds the answers back or kills the server, reads what this prints, and writes a line when it
+continues.
 """
 
 import asyncio
@@ -12,14 +14,14 @@ sys.path.insert(0, str(pathlib.Path(__file__).resolve().parent))
 
 from machipc import *  # noqa: E402,F403
 
-PATIENCE = 12.0
+PATIENCE, SHORTER_PATIENCE, SHORTEST_PATIENCE = 12.0, 9.0, 5.0
 
 
 def say(*words):
     print(*words, flush=True)
 
 
-def run():
+def moved():
     task = Task.adopt(once=True, patience=PATIENCE)
     say("port", task.space, task.bootstrap)
     say("got", task.receive(task.bootstrap).id)
@@ -36,7 +38,7 @@ def run():
         say("cut")
 
 
-async def run_async():
+async def moved_async():
     task = await AsyncTask.adopt(once=True, patience=PATIENCE)
     say("port", task.space, task.bootstrap)
     say("got", (await task.receive(task.bootstrap)).id)
@@ -53,8 +55,56 @@ async def run_async():
         say("cut")
 
 
+def until_answered(call, *arguments):
+    """Makes a call again after each answer that is given up."""
+    while True:
+        try:
+            return call(*arguments)
+        except (MACH_SEND_INTERRUPTED, MACH_RCV_INTERRUPTED):
+            say("late")
+
+
+def late():
+    task = Task.adopt(patience=SHORTER_PATIENCE)
+    say("port", task.space, task.bootstrap)
+    sys.stdin.readline()
+    say("made", until_answered(task.allocate).detach())
+    say("got", until_answered(task.receive, task.bootstrap).id)
+
+
+async def until_answered_async(call, *arguments):
+    while True:
+        try:
+            return await call(*arguments)
+        except (MACH_SEND_INTERRUPTED, MACH_RCV_INTERRUPTED):
+            say("late")
+
+
+async def late_async():
+    task = await AsyncTask.adopt(patience=SHORTER_PATIENCE)
+    say("port", task.space, task.bootstrap)
+    sys.stdin.readline()
+    say("made", (await until_answered_async(task.allocate)).detach())
+    say("got", (await until_answered_async(task.receive, task.bootstrap)).id)
+    await task.close()
+
+
+def idle():
+    task = Task.adopt(once=True, patience=SHORTEST_PATIENCE)
+    say("port", task.space, task.bootstrap)
+    say("got", task.receive(task.bootstrap).id)
+
+
+async def idle_async():
+    task = await AsyncTask.adopt(once=True, patience=SHORTEST_PATIENCE)
+    say("port", task.space, task.bootstrap)
+    say("got", (await task.receive(task.bootstrap)).id)
+    await task.close()
+
+
 if __name__ == "__main__":
-    if sys.argv[1:] == ["async"]:
-        asyncio.run(run_async())
+    what, is_async = sys.argv[1], sys.argv[2:] == ["async"]
+    if is_async:
+        asyncio.run({"moved": moved_async, "late": late_async, "idle": idle_async}[what]())
     else:
-        run()
+        {"moved": moved, "late": late, "idle": idle}[what]()

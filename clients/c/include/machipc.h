@@ -95,9 +95,10 @@ kern_return_t machipc_once(machipc_space_t space);
  * fails with MACH_SEND_INTERRUPTED or MACH_RCV_INTERRUPTED. The default is 30,000, and 0xffffffff means forever. A call
  * that failed like this may or may not have been made.
  *
- * In each mode the server has to answer a call within a third of this time (3 to 10 seconds), and a call that waits for a
- * message or for room is made again so often. A later answer is a loss, as over a path that is cut. So a receive without
- * a timeout notices a cut within two thirds of the patience.
+ * With several paths, in each mode, the server has to answer a call within a third of this time (3 to 10 seconds). A call
+ * that waits for a message or for room is made again as often. A later answer is a loss, as over a path that is cut. So a
+ * receive without a timeout notices a cut within two thirds of the patience. With one path a call waits until it is
+ * answered, as on a server whose disk hangs, and the connection is made within this time (at least 3 seconds).
  */
 void machipc_set_patience(uint32_t milliseconds);
 
@@ -162,7 +163,7 @@ kern_return_t machipc_task_end(const machipc_task_t *task);
 
 /*
  * Puts a task and the server's paths into the environment (MACHIPC_SOCKET, MACHIPC_SPACE, MACHIPC_BOOTSTRAP,
- * MACHIPC_START; MACHIPC_FD is removed), where a started program finds them. KERN_RESOURCE_SHORTAGE: out of memory;
+ * MACHIPC_START; MACHIPC_FD and MACHIPC_PATHS are removed), where a started program finds them. KERN_RESOURCE_SHORTAGE: out of memory;
  * KERN_NO_ACCESS: the process knows no socket, because machrun gave it its connections. It changes the environment,
  * which no other thread may use meanwhile.
  */

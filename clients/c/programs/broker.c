@@ -19,8 +19,9 @@
 #include <time.h>
 #include <unistd.h>
 
-/* The seconds after which a request that isn't finished ends its worker: more than all paths together have. */
-enum { REQUEST_SECONDS = PATHS_MOST * PATHS_TIME / 1000 + 3 };
+/* The milliseconds that all paths together have, and the seconds after which a request that isn't finished ends its
+   worker. */
+enum { ALL_PATHS_TIME = PATHS_MOST * PATHS_TIME, REQUEST_SECONDS = ALL_PATHS_TIME / 1000 + 3 };
 
 /* The milliseconds between a worker's end and the start of the next one, and the longest that broker_end waits for the
    broker's end. */
@@ -126,7 +127,7 @@ static bool answer(int asked, unsigned char byte, int given) {
    which machrun knows the command's space. */
 static kern_return_t enter(int made, const struct broker *broker, const char *path) {
     static struct frame frame;
-    struct clock_wait wait = clock_wait_for(PATHS_TIME);
+    struct clock_wait wait = clock_wait_for(broker->paths->count > 1 ? PATHS_TIME : ALL_PATHS_TIME);
     if (!paths_connect(made, path, &wait)) {
         return MACH_SEND_INTERRUPTED;
     }

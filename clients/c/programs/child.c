@@ -141,10 +141,16 @@ static void confine(const struct child *child) {
     }
 }
 
-static void give_broker(int broker) {
-    char number[16];
-    snprintf(number, sizeof number, "%d", broker);
-    if (fcntl(broker, F_SETFD, 0) != 0 || setenv("MACHIPC_FD", number, 1) != 0 || unsetenv("MACHIPC_SOCKET") != 0) {
+static bool export_number(const char *variable, unsigned number) {
+    char text[16];
+    snprintf(text, sizeof text, "%u", number);
+    return setenv(variable, text, 1) == 0;
+}
+
+static void give_broker(const struct child *child) {
+    bool is_done = fcntl(child->broker, F_SETFD, 0) == 0 && export_number("MACHIPC_FD", (unsigned) child->broker) &&
+                   export_number("MACHIPC_PATHS", (unsigned) child->paths.count) && unsetenv("MACHIPC_SOCKET") == 0;
+    if (!is_done) {
         fail("environment");
     }
 }
@@ -152,7 +158,7 @@ static void give_broker(int broker) {
 void child_run(const struct child *child) {
     if (child->broker >= 0) {
         confine(child);
-        give_broker(child->broker);
+        give_broker(child);
     } else {
         become_user(child);
     }

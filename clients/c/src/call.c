@@ -34,7 +34,7 @@ kern_return_t call_read(struct connection *connection, uint32_t number) {
 }
 
 static kern_return_t exchange_repeated(struct connection *connection, const struct settings *settings) {
-    struct clock_wait patience = clock_wait_for(settings->patience);
+    struct clock_wait patience;
     bool was_out = false;
     for (bool is_again = false;; is_again = true) {
         kern_return_t code = connection_exchange(connection, settings, 0);
@@ -43,6 +43,9 @@ static kern_return_t exchange_repeated(struct connection *connection, const stru
                 call_count_repeat();
             }
             return code;
+        }
+        if (!is_again) {
+            patience = clock_wait_for(settings->patience); /* which begins with the first loss */
         }
         was_out = was_out || code == MACH_RCV_INTERRUPTED;
         if (!clock_wait_pause(&patience)) {

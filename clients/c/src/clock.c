@@ -18,6 +18,10 @@ struct clock_wait clock_wait_for(uint32_t milliseconds) {
     };
 }
 
+uint32_t clock_sum(uint32_t one, uint32_t other) {
+    return one < CLOCK_FOR_EVER - other ? one + other : CLOCK_FOR_EVER;
+}
+
 uint32_t clock_wait_left(const struct clock_wait *wait) {
     if (wait->is_endless) {
         return CLOCK_FOR_EVER;

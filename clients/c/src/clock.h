@@ -17,6 +17,9 @@ struct clock_wait {
 /* Returns a timeout of these milliseconds from now on, or CLOCK_FOR_EVER. */
 struct clock_wait clock_wait_for(uint32_t milliseconds);
 
+/* Returns the sum of two timeouts, which is CLOCK_FOR_EVER if one of them is. */
+uint32_t clock_sum(uint32_t one, uint32_t other);
+
 /* Returns the milliseconds that are left: 0 if the timeout expired, CLOCK_FOR_EVER if it never does. */
 uint32_t clock_wait_left(const struct clock_wait *wait);
 

@@ -13,7 +13,7 @@ static atomic_size_t place_of_last;
 /* Connects the connection to the server at a path, and takes it to the settings' space. A server that accepts and doesn't
    answer isn't ready, or isn't reached: a proxy accepts for a server that is gone. */
 static kern_return_t enter(struct connection *connection, const struct settings *settings, const char *path) {
-    struct clock_wait wait = clock_wait_for(PATHS_TIME);
+    struct clock_wait wait = clock_wait_for(settings_path_time(settings));
     struct frame *frame = &connection->reply; /* the call's frame may hold a call that is repeated */
     connection_close(connection);
     if (!connection_make_socket(connection) || !paths_connect(connection->socket, path, &wait)) {
@@ -68,7 +68,7 @@ kern_return_t connection_exchange(struct connection *connection, const struct se
     if (code != KERN_SUCCESS) {
         return code;
     }
-    struct clock_wait answer = clock_wait_for(wait + settings_answer_time(settings));
+    struct clock_wait answer = clock_wait_for(clock_sum(wait, settings_answer_time(settings)));
     if (!frame_send(&connection->call, connection->socket, &answer)) {
         connection_close(connection);
         return MACH_SEND_INTERRUPTED;

@@ -49,7 +49,7 @@ kern_return_t connection_open(struct connection *connection, const struct settin
 
 /* Sends the call's frame and reads the reply's, once. `wait` has the milliseconds for which the server may wait before it
    answers. MACH_SEND_INTERRUPTED: the connection was lost before the frame was sent; MACH_RCV_INTERRUPTED: it was lost
-   after that, or the answer is late, as over a path that is cut; KERN_INVALID_TASK: as above. */
+   after that, or the answer is late and there are other paths; KERN_INVALID_TASK: as above. */
 kern_return_t connection_exchange(struct connection *connection, const struct settings *settings, uint32_t wait);
 
 #endif

@@ -64,18 +64,22 @@ static mach_msg_return_t interrupted(mach_msg_option_t option, kern_return_t cod
     return option & MACH_SEND_MSG ? code : MACH_RCV_INTERRUPTED;
 }
 
+mach_msg_option_t message_timeouts(mach_msg_option_t options, mach_msg_timeout_t timeout) {
+    return timeout == CLOCK_FOR_EVER ? 0 : options;
+}
+
 #define BOTH (MACH_SEND_MSG | MACH_RCV_MSG)
 #define TIMEOUTS (MACH_SEND_TIMEOUT | MACH_RCV_TIMEOUT)
 
-/* Makes a call whose halves all have a timeout. */
+/* Makes a call whose halves all have its timeout. */
 static mach_msg_return_t message_part(struct connection *connection, const struct settings *settings,
                                       const struct message_call *part) {
     message_frame(connection, part);
     if (connection->call.is_bad) {
         return MACH_SEND_NO_BUFFER;
     }
-    uint32_t halves = (part->option & BOTH) == BOTH ? 2 : 1;
-    kern_return_t code = connection_exchange(connection, settings, halves * part->timeout);
+    uint32_t wait = (part->option & BOTH) == BOTH ? clock_sum(part->timeout, part->timeout) : part->timeout;
+    kern_return_t code = connection_exchange(connection, settings, wait);
     if (code != KERN_SUCCESS) {
         return call_was_cut(code) ? interrupted(part->option, code) : code;
     }
@@ -83,17 +87,17 @@ static mach_msg_return_t message_part(struct connection *connection, const struc
     return code == MIG_REPLY_MISMATCH ? code : message_result(connection, part, code);
 }
 
-/* Makes a call of which each half has this timeout. A long wait is made in parts, so that the server has to answer each:
-   over a path that is cut no answer comes. */
+/* Makes a call of which each half has this timeout. With several paths a long wait is made in parts, so that the server
+   has to answer each: over a path that is cut no answer comes. */
 static mach_msg_return_t message_in_parts(struct connection *connection, const struct settings *settings,
                                           const struct message_call *call, mach_msg_timeout_t timeout) {
     struct message_call part = *call;
     struct clock_wait wait = clock_wait_for(timeout);
     uint32_t longest = settings_answer_time(settings);
-    part.option |= TIMEOUTS;
     for (;;) {
         uint32_t left = clock_wait_left(&wait);
         part.timeout = left < longest ? left : longest;
+        part.option = (part.option & ~TIMEOUTS) | message_timeouts(TIMEOUTS, part.timeout);
         mach_msg_return_t code = message_part(connection, settings, &part);
         if (code == MACH_RCV_TIMED_OUT && (part.option & MACH_SEND_MSG)) {
             part.option &= ~MACH_SEND_MSG; /* the receive has begun with this part */

@@ -25,6 +25,9 @@ mach_msg_return_t message_result(struct connection *connection, const struct mes
 /* Returns the code of mach_msg if it is out of memory before the call is sent. */
 mach_msg_return_t message_no_memory(mach_msg_option_t option);
 
+/* Returns the options of a timeout: these, or none if it is CLOCK_FOR_EVER. */
+mach_msg_option_t message_timeouts(mach_msg_option_t options, mach_msg_timeout_t timeout);
+
 /* mach_msg in the mode of machipc_once. */
 mach_msg_return_t message_once(struct connection *connection, const struct settings *settings,
                                const struct message_call *call);

@@ -48,13 +48,13 @@ static mach_msg_return_t send_once(struct connection *connection, const struct s
 static mach_msg_return_t await(struct connection *connection, const struct settings *settings, const struct message_call *call,
                                const struct clock_wait *wait) {
     mach_msg_header_t nothing;
-    struct clock_wait patience = clock_wait_for(settings->patience);
+    struct clock_wait patience;
     uint32_t longest = settings_answer_time(settings);
     for (bool is_again = false;; is_again = true) {
         struct message_call look = {.message = &nothing, .receive_name = call->receive_name};
         uint32_t left = clock_wait_left(wait);
-        look.option = MACH_RCV_MSG | MACH_RCV_LARGE | MACH_RCV_TIMEOUT;
         look.timeout = left < longest ? left : longest;
+        look.option = MACH_RCV_MSG | MACH_RCV_LARGE | message_timeouts(MACH_RCV_TIMEOUT, look.timeout);
         message_frame(connection, &look);
         kern_return_t code = connection_exchange(connection, settings, look.timeout);
         if (is_again && !call_was_cut(code)) {
@@ -64,8 +64,14 @@ static mach_msg_return_t await(struct connection *connection, const struct setti
             code = call_read(connection, CALL_MACH_MSG);
             return code == MIG_REPLY_MISMATCH ? code : message_result(connection, &look, code);
         }
-        if (!call_was_cut(code) || !clock_wait_pause(&patience)) {
-            return call_was_cut(code) ? MACH_RCV_INTERRUPTED : code;
+        if (!call_was_cut(code)) {
+            return code;
+        }
+        if (!is_again) {
+            patience = clock_wait_for(settings->patience);
+        }
+        if (!clock_wait_pause(&patience)) {
+            return MACH_RCV_INTERRUPTED;
         }
     }
 }

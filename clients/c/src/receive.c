@@ -1,9 +1,9 @@
 /*
  * Receives for event loops. If there is no message, it begins a wait on a second connection of the thread, and returns.
  * The wait is a call with limit 0 and MACH_RCV_LARGE, which leaves each message in the queue and only reports it. So a
- * cancelled wait loses nothing, and a message is taken only by the call that returns it. The server has to answer the
- * wait now and then even if there is no message, and a timer ends when the answer is late: over a path that is cut none
- * comes.
+ * cancelled wait loses nothing, and a message is taken only by the call that returns it. With several paths the server has
+ * to answer the wait now and then even if there is no message, and a timer ends when the answer is late: over a path that
+ * is cut none comes.
  */
 
 #include "call.h"
@@ -47,8 +47,9 @@ int machipc_fd(void) {
     return watch != NULL ? watch->events : -1;
 }
 
-/* Sets the timer to these milliseconds. 0: it doesn't end. */
+/* Sets the timer to these milliseconds. 0 or CLOCK_FOR_EVER: it doesn't end. */
 static void set_timer(struct connection *watch, uint32_t milliseconds) {
+    milliseconds = milliseconds == CLOCK_FOR_EVER ? 0 : milliseconds;
     struct itimerspec time = {.it_value = {milliseconds / 1000, milliseconds % 1000 * 1000000}};
     timerfd_settime(watch->timer, 0, &time, NULL);
 }
@@ -72,7 +73,7 @@ static bool waits_for(const struct connection *watch, mach_port_t name) {
 static struct message_call wait_for(mach_port_t name, mach_msg_header_t *nothing, mach_msg_timeout_t timeout) {
     return (struct message_call){
         .message = nothing,
-        .option = MACH_RCV_MSG | MACH_RCV_LARGE | MACH_RCV_TIMEOUT,
+        .option = MACH_RCV_MSG | MACH_RCV_LARGE | message_timeouts(MACH_RCV_TIMEOUT, timeout),
         .receive_name = name,
         .timeout = timeout,
     };
@@ -95,7 +96,7 @@ static kern_return_t begin_wait(struct connection *watch, mach_port_t name) {
         connection_close(watch);
         return MACH_RCV_INTERRUPTED;
     }
-    set_timer(watch, 2 * time);
+    set_timer(watch, clock_sum(time, time));
     watch->watched = name;
     return KERN_SUCCESS;
 }

@@ -47,17 +47,26 @@ struct settings settings_now(void) {
 
 uint32_t settings_answer_time(const struct settings *settings) {
     uint32_t third = settings->patience / 3;
+    if (!settings->has_other_paths) {
+        return CLOCK_FOR_EVER;
+    }
     if (third < SHORTEST_ANSWER) {
         return SHORTEST_ANSWER;
     }
     return third < LONGEST_ANSWER ? third : LONGEST_ANSWER;
 }
 
+uint32_t settings_path_time(const struct settings *settings) {
+    bool is_longer = !settings->has_other_paths && settings->patience > PATHS_TIME;
+    return is_longer ? settings->patience : PATHS_TIME;
+}
+
 /* Uses another server. The choices for the former one are dropped. */
-static void use(const char *paths, int broker, machipc_space_t space) {
+static void use(const char *paths, bool has_other_paths, int broker, machipc_space_t space) {
     take_lock();
     memset(shared.paths, 0, sizeof shared.paths);
     memcpy(shared.paths, paths, strlen(paths));
+    shared.has_other_paths = has_other_paths;
     shared.broker = broker;
     shared.space = space;
     shared.is_confined = broker >= 0;
@@ -71,13 +80,13 @@ bool settings_use_server(const char *paths) {
     struct paths read;
     bool is_list = paths != NULL && paths_read(&read, paths);
     if (is_list) {
-        use(paths, -1, MACHIPC_FIRST_SPACE);
+        use(paths, read.count > 1, -1, MACHIPC_FIRST_SPACE);
     }
     return is_list;
 }
 
-void settings_use_broker(int broker, machipc_space_t space) {
-    use("", broker, space);
+void settings_use_broker(int broker, machipc_space_t space, bool has_other_paths) {
+    use("", has_other_paths, broker, space);
 }
 
 unsigned long settings_use_space(machipc_space_t space, bool is_once) {

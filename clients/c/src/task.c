@@ -85,9 +85,9 @@ kern_return_t machipc_task_export(const machipc_task_t *task) {
     if (settings.broker >= 0) {
         return KERN_NO_ACCESS;
     }
-    bool is_done = unsetenv("MACHIPC_FD") == 0 && setenv("MACHIPC_SOCKET", settings.paths, 1) == 0 &&
-                   export_number("MACHIPC_SPACE", task->space) && export_number("MACHIPC_BOOTSTRAP", task->bootstrap) &&
-                   export_number("MACHIPC_START", task->start);
+    bool is_done = unsetenv("MACHIPC_FD") == 0 && unsetenv("MACHIPC_PATHS") == 0 &&
+                   setenv("MACHIPC_SOCKET", settings.paths, 1) == 0 && export_number("MACHIPC_SPACE", task->space) &&
+                   export_number("MACHIPC_BOOTSTRAP", task->bootstrap) && export_number("MACHIPC_START", task->start);
     return is_done ? KERN_SUCCESS : KERN_RESOURCE_SHORTAGE;
 }
 
@@ -115,7 +115,8 @@ static kern_return_t adopt_brokered(machipc_space_t space) {
     if (connection == NULL) {
         return KERN_RESOURCE_SHORTAGE;
     }
-    settings_use_broker((int) descriptor, space);
+    uint32_t paths = 1;
+    settings_use_broker((int) descriptor, space, import_number("MACHIPC_PATHS", &paths) && paths > 1);
     struct settings settings = settings_now();
     return connection_open(connection, &settings);
 }

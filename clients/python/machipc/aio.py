@@ -28,7 +28,7 @@ from .errors import (
 from .messages import Message
 from .ports import PortStatus
 from .task import Task
-from .waiting import Deadline, answer_time
+from .waiting import Deadline, total
 
 T = TypeVar("T")
 
@@ -186,26 +186,28 @@ class AsyncTask:
     async def _await(self, name: int, wait: Deadline) -> None:
         """Waits until there is a message, and leaves it, or until the server has to answer all the same. A task that numbers
         its calls waits again after a cut."""
-        patience = Deadline(self.task.patience)
+        patience: Optional[Deadline] = None
         while True:
             try:
                 return await self._watch(name, self.task._part(wait))
             except (MACH_SEND_INTERRUPTED, MACH_RCV_INTERRUPTED) as fault:
+                patience = patience or Deadline(self.task.patience)
                 pause = patience.next_pause() if self.task._numbers else None
                 if pause is None:
                     raise MACH_RCV_INTERRUPTED(*fault.args) from None
             await asyncio.sleep(pause)
 
-    async def _watch(self, name: int, timeout: float) -> None:
+    async def _watch(self, name: int, timeout: Optional[float]) -> None:
         """Waits by a call with limit 0, into which no message fits. A cancelled wait ends with its connection, and so does one
-        whose answer is late."""
+        whose answer is late if there are other paths."""
         while not self._idle:
             await asyncio.to_thread(self._open)
         connection, generation = self._idle.pop(), self._generation
-        late = asyncio.get_running_loop().call_later(timeout + answer_time(self.task.patience), _cut, connection)
+        time = total(timeout, self.task._answer_time())
+        late = None if time is None else asyncio.get_running_loop().call_later(time, _cut, connection)
         is_out = False
         try:
-            option = wire.RCV_MSG | wire.RCV_LARGE | wire.RCV_TIMEOUT
+            option = wire.RCV_MSG | wire.RCV_LARGE | (wire.timeouts(timeout) & wire.RCV_TIMEOUT)
             frame = wire.words(wire.MACH_MSG) + wire.mach_msg(option, 0, name, timeout)
             await asyncio.get_running_loop().sock_sendall(connection, wire.with_length(frame))
             is_out = True
@@ -219,7 +221,8 @@ class AsyncTask:
             connection.close()
             raise
         finally:
-            late.cancel()
+            if late:
+                late.cancel()
         if generation == self._generation:
             self._idle.append(connection)
         else:
@@ -231,7 +234,7 @@ class AsyncTask:
         """Opens a connection for a wait, on another thread: the connection exists even if the wait was cancelled."""
         generation = self._generation
         try:
-            made = routes.open_socket(self.task._route, self.task.space, self.task._is_confined)
+            made = routes.open_socket(self.task._route, self.task.space, self.task._is_confined, self.task.patience)
         except OSError as fault:
             if isinstance(fault, MachError):
                 raise

@@ -25,7 +25,7 @@ from .errors import (
     MachError,
     refusal,
 )
-from .waiting import Deadline, answer_time
+from .waiting import Deadline, answer_time, total
 
 _LAST_NUMBER = 0xFFFFFFFF
 
@@ -64,7 +64,7 @@ class Exchange:
         if self._socket:
             return
         try:
-            self._socket = routes.open_socket(self._route, self.space, self._is_confined)
+            self._socket = routes.open_socket(self._route, self.space, self._is_confined, self.patience)
         except OSError as fault:
             if isinstance(fault, MachError):
                 raise
@@ -78,12 +78,15 @@ class Exchange:
         assert self._socket
         return routes.read_frame(self._socket)
 
-    def _exchange(self, frame: bytes, wait: float = 0.0) -> bytes:
+    def _answer_time(self) -> Optional[float]:
+        return answer_time(self.patience, self._route.has_others)
+
+    def _exchange(self, frame: bytes, wait: Optional[float] = 0.0) -> bytes:
         """Returns the reply to a frame, which is sent once. `wait` has the seconds for which the server may wait before it
-        answers. A later answer counts as a cut: over a path that is cut none comes."""
+        answers. If there are other paths, a later answer counts as a cut: over a path that is cut none comes."""
         self._open()
         assert self._socket
-        self._socket.settimeout(wait + answer_time(self.patience))
+        self._socket.settimeout(total(wait, self._answer_time()))
         is_out = False
         try:
             self._write(frame)
@@ -97,16 +100,15 @@ class Exchange:
             raise
 
     def _exchange_repeated(self, frame: bytes) -> bytes:
-        """Returns the reply to a frame that may be sent again."""
-        patience = Deadline(self.patience)
-        is_again = False
+        """Returns the reply to a frame that may be sent again. The patience begins with the first cut."""
+        patience: Optional[Deadline] = None
         while True:
             try:
                 reply = self._exchange(frame)
-                self.repeats += is_again
+                self.repeats += patience is not None
                 return reply
             except (MACH_SEND_INTERRUPTED, MACH_RCV_INTERRUPTED):
-                is_again = True
+                patience = patience or Deadline(self.patience)
                 if not patience.pause():
                     raise
 

@@ -19,7 +19,7 @@ from .errors import (
 )
 from .exchange import Exchange
 from .messages import Message
-from .waiting import Deadline, answer_time
+from .waiting import Deadline, earlier, total
 
 
 def text_of(message: Message) -> bytes:
@@ -68,8 +68,8 @@ class Messaging(Exchange):
     def _mach_msg(
         self, option: int, limit: int, name: int, timeout: Optional[float], text: bytes = b""
     ) -> Tuple[int, bytes]:
-        """Makes a call of which each half has this timeout. A long wait is made in parts, so that the server has to answer
-        each: over a path that is cut no answer comes."""
+        """Makes a call of which each half has this timeout. If there are several paths, a long wait is made in parts, so that
+        the server has to answer each: over a path that is cut no answer comes."""
         wait = Deadline(timeout)
         while True:
             part = self._part(wait)
@@ -81,20 +81,21 @@ class Messaging(Exchange):
                 raise MACH_RCV_INTERRUPTED(*fault.args) from None
             if code == MACH_RCV_TIMED_OUT.code and option & wire.SEND_MSG:
                 option, text = option & ~wire.SEND_MSG, b""
-                wait = Deadline(None if timeout is None else timeout - part)  # the receive has begun with this part
+                # The receive has begun with this part.
+                wait = Deadline(None if timeout is None or part is None else timeout - part)
             if wait.left() == 0 or code not in (MACH_SEND_TIMED_OUT.code, MACH_RCV_TIMED_OUT.code):
                 return code, results
 
-    def _part(self, wait: Deadline) -> float:
-        """Returns the seconds of a wait after which the server has to answer."""
-        left, longest = wait.left(), answer_time(self.patience)
-        return longest if left is None else min(left, longest)
+    def _part(self, wait: Deadline) -> Optional[float]:
+        """Returns the seconds of a wait after which the server has to answer, or None if it may wait forever."""
+        return earlier(wait.left(), self._answer_time())
 
-    def _mach_msg_part(self, option: int, limit: int, name: int, part: float, text: bytes = b"") -> Tuple[int, bytes]:
+    def _mach_msg_part(
+        self, option: int, limit: int, name: int, part: Optional[float], text: bytes = b""
+    ) -> Tuple[int, bytes]:
         has_both = option & wire.SEND_MSG and option & wire.RCV_MSG
-        option |= wire.SEND_TIMEOUT | wire.RCV_TIMEOUT
-        frame = wire.words(wire.MACH_MSG) + wire.mach_msg(option, limit, name, part, text)
-        return self._answer(wire.MACH_MSG, self._exchange(frame, 2 * part if has_both else part))
+        frame = wire.words(wire.MACH_MSG) + wire.mach_msg(option | wire.timeouts(part), limit, name, part, text)
+        return self._answer(wire.MACH_MSG, self._exchange(frame, total(part, part) if has_both else part))
 
     def _received(self, code: int, results: bytes, limit: int) -> Message:
         try:
@@ -147,17 +148,16 @@ class Messaging(Exchange):
 
     def _await(self, name: int, wait: Deadline) -> None:
         """Waits until there is a message, and leaves it, since none fits into a limit of 0; or until the server has to answer
-        all the same."""
-        patience = Deadline(self.patience)
-        is_again = False
+        all the same. The patience begins with the first cut."""
+        patience: Optional[Deadline] = None
         while True:
             try:
                 code, results = self._mach_msg_part(wire.RCV_MSG | wire.RCV_LARGE, 0, name, self._part(wait))
-                self.repeats += is_again
+                self.repeats += patience is not None
                 self._received(code, results, 0)
             except (MACH_RCV_TOO_LARGE, MACH_RCV_TIMED_OUT):
                 return
             except (MACH_SEND_INTERRUPTED, MACH_RCV_INTERRUPTED) as fault:
+                patience = patience or Deadline(self.patience)
                 if not patience.pause():
                     raise MACH_RCV_INTERRUPTED(*fault.args) from None
-            is_again = True

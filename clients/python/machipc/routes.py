@@ -11,7 +11,7 @@ from typing import List, Optional, Tuple, Union
 
 from . import wire
 from .errors import KERN_INVALID_ARGUMENT, MachError, refusal
-from .waiting import PATH_TIME, Deadline
+from .waiting import Deadline, path_time
 
 # machrun's answer if the server can't be reached now, and the longest wait for an answer in seconds.
 _LATER, _BROKER_PATIENCE = 255, 20.0
@@ -31,11 +31,17 @@ class Paths:
             raise KERN_INVALID_ARGUMENT(f"no list of at most {_MOST_PATHS} paths of sockets: {text!r}")
         self._last = 0  # the place of the path that answered last, which is tried first
 
-    def open(self, space: int, is_confined: bool) -> socket.socket:
+    @property
+    def has_others(self) -> bool:
+        """True if there is another path where one is cut."""
+        return len(self.each) > 1
+
+    def open(self, space: int, is_confined: bool, patience: Optional[float]) -> socket.socket:
+        time = path_time(patience, self.has_others)
         fault: Optional[OSError] = None
         for place in (*range(self._last, len(self.each)), *range(self._last)):
             try:
-                made = _open_path(self.each[place], space, is_confined)
+                made = _open_path(self.each[place], space, is_confined, time)
             except MachError:
                 raise  # the server's answer
             except OSError as it:
@@ -47,19 +53,27 @@ class Paths:
         raise fault
 
 
-# The paths of the server's sockets, or the descriptor for requests to machrun.
-Route = Union[Paths, int]
+class Broker:
+    """The descriptor for requests to machrun, which knows the paths."""
+
+    def __init__(self, descriptor: int, has_others: bool) -> None:
+        self.descriptor, self.has_others = descriptor, has_others
 
 
-def open_socket(route: Route, space: int, is_confined: bool) -> socket.socket:
+Route = Union[Paths, Broker]
+
+
+def open_socket(route: Route, space: int, is_confined: bool, patience: Optional[float]) -> socket.socket:
     """Returns a connection in a space, for good if it is confined there. Raises OSError if there is none now."""
-    return _from_broker(route) if isinstance(route, int) else route.open(space, is_confined)
+    if isinstance(route, Broker):
+        return _from_broker(route.descriptor)
+    return route.open(space, is_confined, patience)
 
 
-def _open_path(path: str, space: int, is_confined: bool) -> socket.socket:
+def _open_path(path: str, space: int, is_confined: bool, time: Optional[float]) -> socket.socket:
     """Connects to the server at a path. A server that accepts and doesn't answer isn't ready, or isn't reached: a proxy
     accepts for a server that is gone."""
-    wait = Deadline(PATH_TIME)
+    wait = Deadline(time)
     made = socket.socket(socket.AF_UNIX)
     try:
         _connect(made, path, wait)

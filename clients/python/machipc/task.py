@@ -55,7 +55,7 @@ def _route_of_environment(path: str) -> routes.Route:
     descriptor = _number_of_environment("MACHIPC_FD")
     if not routes.is_broker(descriptor):
         raise ValueError("the environment has no way to the task's server")
-    return descriptor
+    return routes.Broker(descriptor, _number_of_environment("MACHIPC_PATHS", "1") > 1)
 
 
 class Task(PortCalls, Messaging):
@@ -100,7 +100,7 @@ class Task(PortCalls, Messaging):
         self.repeats = 0
         self.bootstrap, self.start = PORT_NULL, 1
         self._route = route
-        self._is_confined = isinstance(route, int)
+        self._is_confined = isinstance(route, routes.Broker)
         self._is_refused = False
         self._numbers = None
         self._socket = None

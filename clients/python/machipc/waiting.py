@@ -11,11 +11,32 @@ PATH_TIME = 3.0
 _LONGEST_ANSWER = 10.0
 
 
-def answer_time(patience: Optional[float]) -> float:
+def answer_time(patience: Optional[float], has_other_paths: bool) -> Optional[float]:
     """Returns the seconds within which the server has to answer a call that doesn't wait, and after which it has to answer
-    one that waits: a third of the patience, from 3 to 10 seconds. So a wait over a path that is cut leaves a third of the
-    patience for the other paths."""
+    one that waits. With several paths it is a third of the patience, from 3 to 10 seconds: a wait over a path that is cut
+    leaves a third of the patience for the other paths. With one path it is None: no other path could do better, and a
+    server whose disk hangs answers late."""
+    if not has_other_paths:
+        return None
     return _LONGEST_ANSWER if patience is None else min(max(patience / 3, PATH_TIME), _LONGEST_ANSWER)
+
+
+def path_time(patience: Optional[float], has_other_paths: bool) -> Optional[float]:
+    """Returns the seconds within which a path has to lead to a server: PATH_TIME, or the patience if there is no other
+    path."""
+    if has_other_paths:
+        return PATH_TIME
+    return None if patience is None else max(patience, PATH_TIME)
+
+
+def earlier(one: Optional[float], other: Optional[float]) -> Optional[float]:
+    """Returns the lesser of two times, of which None is forever."""
+    return min((it for it in (one, other) if it is not None), default=None)
+
+
+def total(one: Optional[float], other: Optional[float]) -> Optional[float]:
+    """Returns the sum of two times, of which None is forever."""
+    return None if one is None or other is None else one + other
 
 
 class Deadline:

@@ -38,6 +38,11 @@ def length_of(prefix: bytes) -> int:
     return length
 
 
+def timeouts(timeout: Optional[float]) -> int:
+    """Returns the options of a timeout of both halves."""
+    return 0 if timeout is None else SEND_TIMEOUT | RCV_TIMEOUT
+
+
 def mach_msg(option: int, limit: int, name: int, timeout: Optional[float], text: bytes = b"") -> bytes:
     """Returns the arguments of `mach_msg`."""
     return words(option, limit, name, milliseconds(timeout)) + text

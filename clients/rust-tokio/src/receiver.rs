@@ -118,12 +118,13 @@ impl Receiver {
     /// calls waits again after a cut.
     async fn wait(&self, end: Option<Instant>) -> Result<()> {
         let task = self.port().task();
-        let last_try = task.patience().and_then(|it| Instant::now().checked_add(it));
+        let mut first_cut = None;
         loop {
             match self.watch(end).await {
                 Err(Error::MachRcvTimedOut) => return Ok(()),
                 Err(fault) if fault.is_cut() && task.is_once() => {
-                    if last_try.map_or(false, |it| it <= Instant::now()) {
+                    let first_cut = *first_cut.get_or_insert_with(Instant::now);
+                    if task.patience().map_or(false, |it| it <= first_cut.elapsed()) {
                         return Err(fault);
                     }
                     sleep(PAUSE).await;
@@ -137,14 +138,17 @@ impl Receiver {
     async fn watch(&self, end: Option<Instant>) -> Result<()> {
         let port = self.port().clone();
         let time = port.task().answer_time();
-        let late = Instant::now() + 2 * time;
+        let late = time.map(|it| Instant::now() + 2 * it);
         let watch: Watch = call(move || port.task().watch(port.name(), time)).await?;
         let cut = |fault: std::io::Error| Error::MachRcvInterrupted(fault.kind());
         let readable = AsyncFd::with_interest(watch, Interest::READABLE).map_err(cut)?;
-        match timeout_at(end.map_or(late, |it| it.min(late)), readable.readable()).await {
-            Ok(ready) => drop(ready.map_err(cut)?),
-            Err(_) if Instant::now() < late => return Ok(()),
-            Err(_) => {}
+        match end.into_iter().chain(late).min() {
+            None => drop(readable.readable().await.map_err(cut)?),
+            Some(first) => match timeout_at(first, readable.readable()).await {
+                Ok(ready) => drop(ready.map_err(cut)?),
+                Err(_) if late.map_or(true, |late| Instant::now() < late) => return Ok(()),
+                Err(_) => {}
+            },
         }
         readable.into_inner().finish()
     }

@@ -8,7 +8,7 @@ use std::path::Path;
 use std::sync::Arc;
 use std::time::Duration;
 
-use crate::deadline::{answer_time, Deadline};
+use crate::deadline::Deadline;
 use crate::paths::Paths;
 use crate::wire::{self, Answer, Call};
 use crate::{scm, Error, Result};
@@ -23,14 +23,17 @@ pub(crate) enum Route {
     /// The paths of the server's sockets.
     Paths(Arc<Paths>),
     /// The descriptor by which `machrun` gives connections, which are attached and confined.
-    Broker(OwnedFd),
+    Broker { descriptor: OwnedFd, has_others: bool },
 }
+
+/// The patience of a connection that belongs to no task.
+const PATIENCE: Duration = Duration::from_secs(30);
 
 impl fmt::Debug for Route {
     fn fmt(&self, f: &mut fmt::Formatter<'_>) -> fmt::Result {
         match self {
             Route::Paths(paths) => paths.fmt(f),
-            Route::Broker(_) => f.write_str("machrun"),
+            Route::Broker { .. } => f.write_str("machrun"),
         }
     }
 }
@@ -40,17 +43,25 @@ impl PartialEq for Route {
     fn eq(&self, other: &Route) -> bool {
         match (self, other) {
             (Route::Paths(one), Route::Paths(other)) => one == other,
-            (one, other) => matches!((one, other), (Route::Broker(_), Route::Broker(_))),
+            (one, other) => matches!((one, other), (Route::Broker { .. }, Route::Broker { .. })),
         }
     }
 }
 
 impl Route {
     /// Opens a connection in a space, for good if it is confined there.
-    pub(crate) fn open(&self, space: u32, is_confined: bool) -> Result<Connection> {
+    pub(crate) fn open(&self, space: u32, is_confined: bool, patience: Option<Duration>) -> Result<Connection> {
         match self {
-            Route::Paths(paths) => paths.open(space, is_confined),
-            Route::Broker(broker) => ask_broker(broker),
+            Route::Paths(paths) => paths.open(space, is_confined, patience),
+            Route::Broker { descriptor, .. } => ask_broker(descriptor),
+        }
+    }
+
+    /// Returns true if there is another path where one is cut.
+    pub(crate) fn has_others(&self) -> bool {
+        match self {
+            Route::Paths(paths) => paths.has_others(),
+            Route::Broker { has_others, .. } => *has_others,
         }
     }
 }
@@ -114,7 +125,7 @@ impl Connection {
     /// Connects to the server's socket, or by the first path of a list ([`Task::connect`](crate::Task::connect)) that leads
     /// to a server. The connection is in the first space.
     pub fn open(path: impl AsRef<Path>) -> Result<Connection> {
-        Paths::read(path.as_ref())?.open(crate::FIRST_SPACE, false)
+        Paths::read(path.as_ref())?.open(crate::FIRST_SPACE, false, Some(PATIENCE))
     }
 
     pub(crate) fn new(stream: UnixStream) -> Connection {
@@ -123,12 +134,12 @@ impl Connection {
 
     /// Takes the connection to another space. `KernInvalidTask`: no such space; `KernNoAccess`: it is confined.
     pub fn attach(&mut self, space: u32) -> Result<()> {
-        self.attach_until(space, &Deadline::after(Some(answer_time(None))))
+        self.attach_until(space, &Deadline::after(Some(PATIENCE)))
     }
 
     /// Confines the connection to its space, for good.
     pub fn confine(&mut self) -> Result<()> {
-        self.confine_until(&Deadline::after(Some(answer_time(None))))
+        self.confine_until(&Deadline::after(Some(PATIENCE)))
     }
 
     pub(crate) fn attach_until(&mut self, space: u32, end: &Deadline) -> Result<()> {
@@ -168,7 +179,7 @@ impl Connection {
         written.map_err(|fault| Error::MachSendInterrupted(fault.kind()))
     }
 
-    /// Reads the answer to a call that was written. A later answer counts as a cut: over a path that is cut none comes.
+    /// Reads the answer to a call that was written. A later answer counts as a cut.
     pub(crate) fn read(&mut self, call: &Call, end: &Deadline) -> Result<Answer> {
         let reply = wire::read_frame(&self.stream, end).map_err(|fault| Error::MachRcvInterrupted(fault.kind()))?;
         Answer::of(call, reply)

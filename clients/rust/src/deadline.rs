@@ -9,10 +9,20 @@ pub(crate) const PATH_TIME: Duration = Duration::from_secs(3);
 const LONGEST_ANSWER: Duration = Duration::from_secs(10);
 
 /// Returns the time within which the server has to answer a call that doesn't wait, and after which it has to answer one
-/// that waits: a third of the patience, from 3 to 10 seconds. So a wait over a path that is cut leaves a third of the
-/// patience for the other paths.
+/// that waits, if there are several paths: a third of the patience, from 3 to 10 seconds. So a wait over a path that is cut
+/// leaves a third of the patience for the other paths.
 pub(crate) fn answer_time(patience: Option<Duration>) -> Duration {
     patience.map_or(LONGEST_ANSWER, |it| (it / 3).clamp(PATH_TIME, LONGEST_ANSWER))
+}
+
+/// Returns the lesser of two times, of which `None` is forever.
+pub(crate) fn earlier(one: Option<Duration>, other: Option<Duration>) -> Option<Duration> {
+    one.into_iter().chain(other).min()
+}
+
+/// Returns the sum of two times, of which `None` is forever.
+pub(crate) fn total(one: Option<Duration>, other: Option<Duration>) -> Option<Duration> {
+    one?.checked_add(other?)
 }
 
 const FIRST_PAUSE: Duration = Duration::from_millis(1);
@@ -55,8 +65,9 @@ impl Deadline {
     }
 }
 
-/// Returns a time as `mach_msg` has it: whole milliseconds, rounded up.
-pub(crate) fn milliseconds(time: Duration) -> u32 {
+/// Returns a timeout as `mach_msg` has it: whole milliseconds, rounded up.
+pub(crate) fn milliseconds(timeout: Option<Duration>) -> u32 {
+    let time = timeout.unwrap_or_default();
     let whole = time.as_millis() + u128::from(time.subsec_nanos() % 1_000_000 != 0);
     whole.min(0xffff_fffe) as u32
 }

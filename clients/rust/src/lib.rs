@@ -73,8 +73,8 @@
 //! # When the connection is cut
 //!
 //! A call whose connection is cut fails with an error that [`Error::is_cut`] knows, and the next call connects anew, by any
-//! of the paths of [`Task::connect`]. An answer that is later than [`Task::answer_time`] counts as a cut. The error doesn't
-//! say whether the call was made. With [`Options::once`] it is made once and answered, however often the
+//! of the paths of [`Task::connect`]. With several paths an answer that is later than [`Task::answer_time`] counts as a cut.
+//! The error doesn't say whether the call was made. With [`Options::once`] it is made once and answered, however often the
 //! connection or the server goes away meanwhile:
 //!
 //! ```

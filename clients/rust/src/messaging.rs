@@ -4,7 +4,7 @@ use std::os::unix::io::{AsRawFd, RawFd};
 use std::sync::Arc;
 use std::time::Duration;
 
-use crate::deadline::{milliseconds, Deadline};
+use crate::deadline::{earlier, milliseconds, total, Deadline};
 use crate::message::{HEADER, LARGEST};
 use crate::shared::{Shared, Taken};
 use crate::wire::{self, Answer, Call};
@@ -106,9 +106,10 @@ impl Task {
             let part = self.part(&wait);
             match self.mach_msg(wire::SEND_MSG | wire::RCV_MSG, options.limit, from, part, &bytes) {
                 Err(Error::MachSendTimedOut) if !wait.is_over() => {}
-                Err(Error::MachRcvTimedOut) if timeout.map_or(true, |it| self.answer_time() < it) => {
+                Err(Error::MachRcvTimedOut) if earlier(timeout, self.answer_time()) != timeout => {
                     message.forget();
-                    let rest = ReceiveOptions { timeout: timeout.map(|it| it - part), ..options };
+                    let rest = timeout.map(|it| it.saturating_sub(part.unwrap_or_default()));
+                    let rest = ReceiveOptions { timeout: rest, ..options };
                     return self.receive(from, &rest).map_err(|error| SendError::gone(error, Message::new(0)));
                 }
                 made => match made.and_then(|it| self.received(it, options.limit)) {
@@ -122,17 +123,18 @@ impl Task {
         }
     }
 
-    /// Returns the part of a wait after which the server has to answer: over a path that is cut no answer comes.
-    fn part(&self, wait: &Deadline) -> Duration {
-        wait.left().map_or(self.answer_time(), |left| left.min(self.answer_time()))
+    /// Returns the part of a wait after which the server has to answer, or `None` if it may wait forever: over a path that is
+    /// cut no answer comes.
+    fn part(&self, wait: &Deadline) -> Option<Duration> {
+        earlier(wait.left(), self.answer_time())
     }
 
     /// Makes a part of a call, of which each half has this timeout.
-    fn mach_msg(&self, option: u32, limit: u32, name: Name, part: Duration, bytes: &[u8]) -> Result<Vec<u8>> {
-        let halves = (option & (wire::SEND_MSG | wire::RCV_MSG)).count_ones();
-        let option = option | wire::SEND_TIMEOUT | wire::RCV_TIMEOUT;
-        let call = Call::mach_msg(option, limit, name.0, milliseconds(part), bytes);
-        self.shared.exchange_waiting(&call, halves * part).and_then(message_of)
+    fn mach_msg(&self, option: u32, limit: u32, name: Name, part: Option<Duration>, bytes: &[u8]) -> Result<Vec<u8>> {
+        let has_both = option & wire::SEND_MSG != 0 && option & wire::RCV_MSG != 0;
+        let call = Call::mach_msg(option | wire::timeouts(part), limit, name.0, milliseconds(part), bytes);
+        let wait = if has_both { total(part, part) } else { part };
+        self.shared.exchange_waiting(&call, wait).and_then(message_of)
     }
 
     /// Returns the error of a send, with the message if that wasn't sent. If the send was numbered, a cut leaves open
@@ -212,33 +214,31 @@ impl Task {
     /// Waits until there is a message, and leaves it, or until the server has to answer all the same. A wait that is cut
     /// begins again.
     fn wait_for_message(&self, name: Name, wait: &Deadline) -> Result<()> {
-        let mut patience = Deadline::after(self.shared.patience);
-        let mut is_again = false;
+        let mut patience = None;
         loop {
             match self.watch(name, self.part(wait)).and_then(Watch::finish) {
                 Err(fault) if fault.is_cut() => {
-                    if !patience.pause() {
+                    if !patience.get_or_insert_with(|| Deadline::after(self.shared.patience)).pause() {
                         return Err(fault.of_receive());
                     }
                 }
                 waited => {
-                    self.shared.count_repeat(is_again);
+                    self.shared.count_repeat(patience.is_some());
                     return match waited {
                         Err(Error::MachRcvTimedOut) => Ok(()),
                         waited => waited,
                     };
                 }
             }
-            is_again = true;
         }
     }
 
     /// Begins to wait for a message of a port or a set, for an event loop. The wait takes no message.
     ///
-    /// It ends with `MachRcvTimedOut` after the timeout. A longer one than [`Task::answer_time`] notices a path that is cut
-    /// later.
-    pub fn watch(&self, name: Name, timeout: Duration) -> Result<Watch> {
-        let option = wire::RCV_MSG | wire::RCV_LARGE | wire::RCV_TIMEOUT;
+    /// It ends with `MachRcvTimedOut` after the timeout, and without one never so. With several paths use
+    /// [`Task::answer_time`], or less: a path that is cut is noticed that much later.
+    pub fn watch(&self, name: Name, timeout: Option<Duration>) -> Result<Watch> {
+        let option = wire::RCV_MSG | wire::RCV_LARGE | (wire::timeouts(timeout) & wire::RCV_TIMEOUT);
         let call = Call::mach_msg(option, 0, name.0, milliseconds(timeout), &[]);
         let mut taken = self.shared.take()?;
         let end = self.shared.end_of_answer(timeout);
@@ -252,8 +252,9 @@ impl Task {
 
 /// A wait for a message that takes none, on a connection of its own.
 ///
-/// Its descriptor becomes readable when the wait is over. If it doesn't within the wait's timeout and
-/// [`Task::answer_time`], the path is cut, and [`Watch::finish`] says so. Dropping it ends the wait, and loses nothing.
+/// Its descriptor becomes readable when the wait is over. With several paths it has to within the wait's timeout and
+/// [`Task::answer_time`]: later the path counts as cut, and [`Watch::finish`] says so. Dropping it ends the wait, and loses
+/// nothing.
 ///
 /// ```
 /// # fn main() -> Result<(), machipc::AdoptError> {

@@ -58,13 +58,19 @@ impl Paths {
         Ok(Paths { each, last: AtomicUsize::new(0) })
     }
 
+    /// Returns true if there is another path where one is cut.
+    pub(crate) fn has_others(&self) -> bool {
+        self.each.len() > 1
+    }
+
     /// Opens a connection by the first path that leads to a server. The server has to answer: a proxy accepts for a server
-    /// that is gone.
-    pub(crate) fn open(&self, space: u32, is_confined: bool) -> Result<Connection> {
+    /// that is gone. If there is one path, it has as much time as the patience.
+    pub(crate) fn open(&self, space: u32, is_confined: bool, patience: Option<Duration>) -> Result<Connection> {
+        let time = if self.has_others() { Some(PATH_TIME) } else { patience.map(|it| it.max(PATH_TIME)) };
         let last = self.last.load(Ordering::Relaxed);
         let mut opened = Err(Error::KernInvalidArgument);
         for place in (last..self.each.len()).chain(0..last) {
-            opened = self.each[place].open(space, is_confined);
+            opened = self.each[place].open(space, is_confined, time);
             if !matches!(opened, Err(Error::MachSendInterrupted(_))) {
                 self.last.store(place, Ordering::Relaxed);
                 break;
@@ -87,9 +93,9 @@ impl Entrance {
         Entrance { path, pending: Mutex::new(None) }
     }
 
-    fn open(&self, space: u32, is_confined: bool) -> Result<Connection> {
-        let end = Deadline::after(Some(PATH_TIME));
-        let stream = self.connect(PATH_TIME).map_err(|fault| Error::MachSendInterrupted(fault.kind()))?;
+    fn open(&self, space: u32, is_confined: bool, time: Option<Duration>) -> Result<Connection> {
+        let end = Deadline::after(time);
+        let stream = self.connect(time).map_err(|fault| Error::MachSendInterrupted(fault.kind()))?;
         let mut connection = Connection::new(stream);
         connection.attach_until(space, &end)?;
         if is_confined {
@@ -98,12 +104,12 @@ impl Entrance {
         Ok(connection)
     }
 
-    fn connect(&self, time: Duration) -> io::Result<UnixStream> {
+    fn connect(&self, time: Option<Duration>) -> io::Result<UnixStream> {
         let pending = match lock(&self.pending).take() {
             Some(pending) => pending,
             None => self.begin()?,
         };
-        pending.recv_timeout(time).unwrap_or_else(|_| {
+        pending.recv_timeout(time.unwrap_or(Duration::MAX)).unwrap_or_else(|_| {
             *lock(&self.pending) = Some(pending);
             Err(io::ErrorKind::TimedOut.into())
         })
@@ -136,7 +142,7 @@ mod tests {
 
     #[test]
     fn nothing_listens() {
-        let opened = Paths::read(Path::new("/nowhere:/nor/here")).unwrap().open(1, false);
+        let opened = Paths::read(Path::new("/nowhere:/nor/here")).unwrap().open(1, false, None);
         assert!(matches!(opened, Err(Error::MachSendInterrupted(io::ErrorKind::NotFound))));
     }
 }

@@ -5,7 +5,7 @@ use std::sync::{Mutex, MutexGuard, PoisonError};
 use std::time::Duration;
 
 use crate::connection::{Connection, Route};
-use crate::deadline::{answer_time, Deadline};
+use crate::deadline::{answer_time, total, Deadline};
 use crate::wire::{self, Answer, Call};
 use crate::{Error, Name, Result};
 
@@ -64,7 +64,7 @@ impl Shared {
             let mut idle = lock(&self.idle);
             (idle.connections.pop(), idle.is_confined, idle.generation)
         };
-        let connection = found.map_or_else(|| self.route.open(self.space, is_confined), Ok)?;
+        let connection = found.map_or_else(|| self.route.open(self.space, is_confined, self.patience), Ok)?;
         Ok(Taken { connection, generation })
     }
 
@@ -84,18 +84,24 @@ impl Shared {
         idle.is_confined |= is_confined;
     }
 
+    /// Returns the time within which the server has to answer; with one path `None`, since no other path could do better, and
+    /// a server whose disk hangs answers late.
+    pub(crate) fn answer_time(&self) -> Option<Duration> {
+        self.route.has_others().then(|| answer_time(self.patience))
+    }
+
     /// Returns when the server has to have answered a call that waits for this time.
-    pub(crate) fn end_of_answer(&self, wait: Duration) -> Deadline {
-        Deadline::after(Some(wait + answer_time(self.patience)))
+    pub(crate) fn end_of_answer(&self, wait: Option<Duration>) -> Deadline {
+        Deadline::after(total(wait, self.answer_time()))
     }
 
     /// Makes a call that doesn't wait, once.
     pub(crate) fn exchange(&self, call: &Call) -> Result<Answer> {
-        self.exchange_waiting(call, Duration::ZERO)
+        self.exchange_waiting(call, Some(Duration::ZERO))
     }
 
     /// Makes a call that waits for at most this time, once.
-    pub(crate) fn exchange_waiting(&self, call: &Call, wait: Duration) -> Result<Answer> {
+    pub(crate) fn exchange_waiting(&self, call: &Call, wait: Option<Duration>) -> Result<Answer> {
         let mut taken = self.take()?;
         match taken.connection.exchange(call, &self.end_of_answer(wait)) {
             Ok(answer) => {
@@ -109,24 +115,22 @@ impl Shared {
         }
     }
 
-    /// Makes a call that may be repeated, until the patience is over.
+    /// Makes a call that may be repeated, until the patience is over, which begins with the first cut.
     pub(crate) fn exchange_repeated(&self, call: &Call) -> Result<Answer> {
-        let mut patience = Deadline::after(self.patience);
-        let mut is_again = false;
+        let mut patience = None;
         loop {
             let made = self.exchange(call);
             match made {
                 Err(fault) if fault.is_cut() => {
-                    if !patience.pause() {
+                    if !patience.get_or_insert_with(|| Deadline::after(self.patience)).pause() {
                         return Err(fault);
                     }
                 }
                 made => {
-                    self.count_repeat(is_again);
+                    self.count_repeat(patience.is_some());
                     return made;
                 }
             }
-            is_again = true;
         }
     }
 

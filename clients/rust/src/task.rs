@@ -8,7 +8,6 @@ use std::sync::{Arc, Mutex};
 use std::time::Duration;
 
 use crate::connection::Route;
-use crate::deadline::answer_time;
 use crate::paths::Paths;
 use crate::rights::{Port, PortSet, ReceiveRight};
 use crate::shared::{Idle, Shared};
@@ -74,13 +73,13 @@ impl Options {
     /// Enters the task of the environment, as [`Task::adopt`] does.
     pub fn adopt(self) -> std::result::Result<Task, AdoptError> {
         let route = match env::var_os("MACHIPC_FD") {
-            Some(_) => Route::Broker(
-                number("MACHIPC_FD")?
-                    .try_into()
-                    .ok()
-                    .and_then(scm::packet_socket)
-                    .ok_or(AdoptError::Environment("MACHIPC_FD"))?,
-            ),
+            Some(_) => {
+                let descriptor = number("MACHIPC_FD")?.try_into().ok().and_then(scm::packet_socket);
+                Route::Broker {
+                    descriptor: descriptor.ok_or(AdoptError::Environment("MACHIPC_FD"))?,
+                    has_others: number_or_1("MACHIPC_PATHS")? > 1,
+                }
+            }
             None => {
                 let list = env::var_os("MACHIPC_SOCKET").unwrap_or_default();
                 let paths = Paths::read(Path::new(&list)).map_err(|_| AdoptError::Environment("MACHIPC_SOCKET"))?;
@@ -89,12 +88,12 @@ impl Options {
         };
         let space = number("MACHIPC_SPACE")?;
         let bootstrap = Name(number("MACHIPC_BOOTSTRAP")?);
-        let start = if env::var_os("MACHIPC_START").is_some() { number("MACHIPC_START")? } else { 1 };
+        let start = number_or_1("MACHIPC_START")?;
         self.space(space).begin(route, bootstrap, start).map_err(AdoptError::Call)
     }
 
     fn begin(self, route: Route, bootstrap: Name, start: u32) -> Result<Task> {
-        let is_confined = matches!(route, Route::Broker(_));
+        let is_confined = matches!(route, Route::Broker { .. });
         let mut shared = Shared {
             route,
             space: self.space,
@@ -122,6 +121,10 @@ fn number(variable: &'static str) -> std::result::Result<u32, AdoptError> {
         None => text.parse(),
     };
     parsed.map_err(|_| AdoptError::Environment(variable))
+}
+
+fn number_or_1(variable: &'static str) -> std::result::Result<u32, AdoptError> {
+    env::var_os(variable).map_or(Ok(1), |_| number(variable))
 }
 
 /// No task could be adopted.
@@ -167,7 +170,7 @@ impl Task {
     /// Connects to the server's socket, in the first space.
     ///
     /// A list of up to four paths, `PATH1:PATH2`, leads to the first server that answers, within three seconds for each
-    /// path; in a path a `:` is written `\:`, and a backslash `\\`. `KernInvalidArgument`: it is no list.
+    /// path (one path alone has as long as the patience); in a path a `:` is written `\:`, and a backslash `\\`. `KernInvalidArgument`: it is no list.
     pub fn connect(path: impl AsRef<Path>) -> Result<Task> {
         Options::new().connect(path)
     }
@@ -217,10 +220,11 @@ impl Task {
     }
 
     /// Returns the time within which the server has to answer a call that doesn't wait, and after which it has to answer one
-    /// that waits: a third of the patience, from 3 to 10 seconds. A later answer counts as a cut, and the call fails as
-    /// [`Error::is_cut`] knows; over a path that is cut no answer comes.
-    pub fn answer_time(&self) -> Duration {
-        answer_time(self.shared.patience)
+    /// that waits. With several paths it is a third of the patience, from 3 to 10 seconds. A later answer counts as a cut, and
+    /// the call fails as [`Error::is_cut`] knows: over a path that is cut no answer comes. With one path it is `None`, and a
+    /// call waits until it is answered.
+    pub fn answer_time(&self) -> Option<Duration> {
+        self.shared.answer_time()
     }
 
     /// Returns the number of calls that were repeated after a cut and then answered.

@@ -3,6 +3,7 @@
 
 use std::io::{self, Read};
 use std::os::unix::net::UnixStream;
+use std::time::Duration;
 
 use crate::deadline::Deadline;
 use crate::{Error, Result};
@@ -38,6 +39,11 @@ pub(crate) const RCV_MSG: u32 = 2;
 pub(crate) const SEND_TIMEOUT: u32 = 0x10;
 pub(crate) const RCV_TIMEOUT: u32 = 0x100;
 pub(crate) const RCV_LARGE: u32 = 0x800;
+
+/// Returns the options of a timeout of both halves.
+pub(crate) fn timeouts(timeout: Option<Duration>) -> u32 {
+    timeout.map_or(0, |_| SEND_TIMEOUT | RCV_TIMEOUT)
+}
 
 /// The most bytes of a frame after its length.
 const LONGEST: usize = 65_532;

@@ -197,7 +197,7 @@ fn sets() {
 fn watches() {
     let task = task();
     let port = task.allocate().unwrap();
-    let ended = task.watch(port.name(), Duration::from_millis(10)).unwrap().finish();
+    let ended = task.watch(port.name(), Some(Duration::from_millis(10))).unwrap().finish();
     assert_eq!(ended, Err(Error::MachRcvTimedOut));
     drop(task.watch(port.name(), task.answer_time()).unwrap());
     let watch = task.watch(port.name(), task.answer_time()).unwrap();
