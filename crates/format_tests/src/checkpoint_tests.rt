@@ -31,7 +31,7 @@ static OUTCOMES: [Torn; 6] = [
 ];
 
 /// Number of device calls for a segment and an image of one piece.
-const CALLS: u64 = 18;
+const CALLS: u64 = 17;
 
 /// A disk that crashes as planned. Its methods have no contracts, so that a test's proof carries nothing of them.
 trait Store: Disk {

@@ -135,7 +135,7 @@ fn swept<S: Store + Drop>(alloc: Global, letters: &[u8], once: bool, torn: Torn)
 }
 
 // The first way to fail in which a list isn't swept over as many device calls. (An append makes four; a checkpoint
-// sixteen in slots that were never used, and one to read a gate for each that was.)
+// fifteen in slots that were never used, and one to read a gate for each that was.)
 fn unswept<S: Store + Drop>(alloc: Global, letters: &[u8], calls: u64) -> Option<Way> {
     for torn in &KINDS {
         for once in [false, true] {
@@ -150,8 +150,8 @@ fn unswept<S: Store + Drop>(alloc: Global, letters: &[u8], calls: u64) -> Option
 
 #[test]
 fn a_crash_in_a_checkpoint_leaves_what_was_acknowledged(rt: HostRuntime) {
-    same(&rt, unswept::<MemDisk>(rt.alloc(), TWICE.0, 46), None);
-    same(&rt, unswept::<MemDisk>(rt.alloc(), ALONGSIDE.0, 28), None);
+    same(&rt, unswept::<MemDisk>(rt.alloc(), TWICE.0, 44), None);
+    same(&rt, unswept::<MemDisk>(rt.alloc(), ALONGSIDE.0, 27), None);
 }
 
 // A hundred and twenty receive rights, which make an image of three pieces; a checkpoint is begun, its image closed and
@@ -175,7 +175,7 @@ fn tried<S: Store + Drop>(alloc: Global, wanted: &[u8]) -> Option<(bool, Option<
     let letters = of_three_pieces(alloc)?;
     let (answers, _) = play(alloc, S::empty(alloc), &letters)?;
     let is_answered = answers.get(120..) == Some(wanted);
-    Some((is_answered, unswept::<S>(alloc, &letters, 26)))
+    Some((is_answered, unswept::<S>(alloc, &letters, 25)))
 }
 
 #[test]

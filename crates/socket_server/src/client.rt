@@ -177,26 +177,19 @@ impl<A: Served> Client<Talk<A>> {
         ensures keeps { Kept ⟦<Stream as Read>⟧.remaining ⟦<Stream as Write>⟧.contents A.answer A.makes A.lacks
             A.acknowledges A.fails A.looks self.old.talk self.new.talk }
     {
-        let turn = self.make_calls(alloc, turn);
+        let turn = if self.waits() {
+            let may_wait = self.standing.begin_try();
+            let (turn, tried) = self.talk.try_again(alloc, turn, may_wait);
+            self.standing.note_tried(tried, may_wait);
+            turn
+        } else {
+            self.talk.take(alloc, turn)
+        };
         let is_in_line = match &turn {
             Some(turn) => A::is_waiting(turn, self.number()),
             None => false,
         };
-        let waits = self.waits();
-        self.standing.note_line(waits, is_in_line);
-        turn
-    }
-
-    fn make_calls(&mut self, alloc: Global, turn: A::Turn) -> Option<A::Turn>
-        ensures keeps { Kept ⟦<Stream as Read>⟧.remaining ⟦<Stream as Write>⟧.contents A.answer A.makes A.lacks
-            A.acknowledges A.fails A.looks self.old.talk self.new.talk }
-    {
-        if !self.waits() {
-            return self.talk.take(alloc, turn);
-        }
-        let may_wait = self.standing.begin_try();
-        let (turn, tried) = self.talk.try_again(alloc, turn, may_wait);
-        self.standing.note_tried(tried, may_wait);
+        self.standing.note_line(is_in_line);
         turn
     }
 

@@ -124,7 +124,7 @@ impl Lists {
             _ => {}
         }
         let is_set = set_timer(clock, timers, standing, session, awaits);
-        if !is_set || standing.has_no_line() {
+        if !is_set || standing.lacks_line(awaits) {
             let _ = self.failed.push(session);
         }
     }
@@ -245,15 +245,17 @@ fn set_timer(
     awaits: Awaits,
 ) -> bool {
     let timed = awaits.timed();
-    if let Some(end) = standing.take_other_timer(timed) {
+    if let Some((timed, _)) = timed {
+        if standing.is_timed(timed) {
+            return true;
+        }
+    }
+    if let Some(end) = standing.cancel_timer() {
         timers.clear(end, session);
     }
     let Some((timed, most)) = timed else {
         return true;
     };
-    if standing.timer().is_some() {
-        return true;
-    }
     let Some(end) = timers.set(clock, session, most) else {
         return false;
     };

@@ -1,6 +1,7 @@
 //! What a worker knows of a connection, besides its conversation.
-ghost use Rattle.std.specs.Prelude.{◌≡◌, Some};
+ghost use Rattle.std.specs.Prelude.{◌≡◌};
 ghost use Rattle.socket_server.specs.Closing.{MayClose};
+ghost use Rattle.socket_server.specs.declared.standing.Timer.TheVariants.{Expired};
 
 use frame_service::{Filled, Tried};
 use std::mem;
@@ -79,28 +80,50 @@ pub(crate) struct Progress {
     pub(crate) has_next: bool,
 }
 
+/// Whether there may be input to read.
+#[derive(Clone, Copy, PartialEq, Eq)]
+enum Input {
+    Ready,
+    Drained,
+    /// Memory for it ran out.
+    NoMemory,
+}
+
+/// Where the call stands that waits, if one does.
+#[derive(Clone, Copy, PartialEq, Eq)]
+enum Line {
+    /// In line.
+    In,
+    /// Its turn has come.
+    Due,
+    /// In no line, since an allocation failed.
+    Nowhere,
+}
+
+/// A connection's timer.
+#[derive(Clone, Copy, PartialEq, Eq)]
+pub(crate) enum Timer {
+    Unset,
+    /// Set to this deadline.
+    Set(u64, Timed),
+    /// Set to this deadline, for a wait that is over.
+    Stale(u64),
+    Expired(Timed),
+}
+
 /// What a worker knows of a connection, besides its conversation.
 #[derive(Clone, Copy)]
 pub(crate) struct Standing {
-    // Whether something came that its conversation wasn't asked about, whether there may be something to read, whether
-    // memory for it ran out, and whether room is reported.
-    has_event: bool,
-    may_read: bool,
-    lacks_memory: bool,
-    awaits_room: bool,
-
-    // Whether its call's turn has come, and whether the call waits in no line, since an allocation failed.
-    has_turn: bool,
-    has_no_line: bool,
+    input: Input,
+    line: Line,
+    pub(crate) timer: Timer,
 
     /// Why it failed, if it did.
     pub(crate) failure: Option<Failure>,
 
-    // The deadline of its timer; what its time is over for; and whether what it waits for has just begun, so that the
-    // timer is set anew.
-    timer: Option<(u64, Timed)>,
-    pub(crate) over: Option<Timed>,
-    begins: bool,
+    // Whether the socket had an event of which the conversation wasn't asked, and whether room for output is reported.
+    has_event: bool,
+    awaits_room: bool,
 
     /// Whether it is among the runnable sessions, and among those that ran in this round.
     pub(crate) is_ready: bool,
@@ -111,16 +134,12 @@ impl Standing {
     /// A connection of which nothing was read yet.
     pub(crate) fn new() -> Self {
         Standing {
-            has_event: false,
-            may_read: true,
-            lacks_memory: false,
-            awaits_room: false,
-            has_turn: false,
-            has_no_line: false,
+            input: Input::Ready,
+            line: Line::In,
+            timer: Timer::Unset,
             failure: None,
-            timer: None,
-            over: None,
-            begins: false,
+            has_event: false,
+            awaits_room: false,
             is_ready: false,
             is_worked: false,
         }
@@ -129,7 +148,7 @@ impl Standing {
     /// Notes that something came, or that there is room, or that the peer closed its side.
     pub(crate) fn note_event(&mut self) {
         self.has_event = true;
-        self.may_read = true;
+        self.input = Input::Ready;
     }
 
     /// Returns true if an event was noted since this was asked last.
@@ -137,38 +156,35 @@ impl Standing {
         mem::replace(&mut self.has_event, false)
     }
 
-    /// Marks the waiting call as runnable.
+    /// Notes that the turn of its call has come.
     pub(crate) fn note_turn(&mut self) {
-        self.has_turn = true;
+        self.line = Line::Due;
     }
 
     /// Notes that its timer has expired.
     pub(crate) fn note_time(&mut self) {
-        let Some((_, timed)) = self.timer.take() else {
-            return;
-        };
-        if timed == Timed::Memory {
-            self.lacks_memory = false;
-            self.may_read = true;
-        } else {
-            self.over = Some(timed);
+        match self.timer {
+            Timer::Set(_, Timed::Memory) => {
+                self.timer = Timer::Unset;
+                self.input = Input::Ready;
+            }
+            Timer::Set(_, timed) => self.timer = Timer::Expired(timed),
+            Timer::Stale(_) => self.timer = Timer::Unset,
+            _ => {}
         }
     }
 
     /// Returns true if more may be read while so many bytes wait for their frames' turn.
     pub(crate) fn may_read(&self, ahead: usize) -> bool {
-        self.may_read && ahead < MOST_AHEAD
+        self.input == Input::Ready && ahead < MOST_AHEAD
     }
 
     /// Notes what came of a read.
     pub(crate) fn note_filled(&mut self, filled: Filled) {
         match filled {
             Filled::Some => {}
-            Filled::None | Filled::Over => self.may_read = false,
-            Filled::NoMemory => {
-                self.may_read = false;
-                self.lacks_memory = true;
-            }
+            Filled::None | Filled::Over => self.input = Input::Drained,
+            Filled::NoMemory => self.input = Input::NoMemory,
         }
     }
 
@@ -178,17 +194,19 @@ impl Standing {
             return false;
         }
         if progress.waits.is_some() {
-            return self.has_turn || self.has_no_line || self.over == Some(Timed::Turn);
+            return self.line != Line::In || self.timer == Timer::Expired(Timed::Turn);
         }
         progress.has_next
     }
 
     /// Begins to make the waiting call again. Returns true if it may wait on.
     pub(crate) fn begin_try(&mut self) -> bool {
-        let may_wait = self.over != Some(Timed::Turn);
-        self.has_turn = false;
-        self.over = None;
-        may_wait
+        self.line = Line::In;
+        if self.timer != Timer::Expired(Timed::Turn) {
+            return true;
+        }
+        self.timer = Timer::Unset;
+        false
     }
 
     /// Notes what came of the waiting call.
@@ -200,13 +218,24 @@ impl Standing {
                     self.note_failure(Failure::Step);
                 }
             }
-            Tried::WaitsForReceive => self.begins = true,
+            Tried::WaitsForReceive => self.end_wait(),
         }
     }
 
-    /// Notes whether a call waits, and whether it is in line.
-    pub(crate) fn note_line(&mut self, waits: bool, is_in_line: bool) {
-        self.has_no_line = waits && !is_in_line;
+    /// Notes that what its timer is set for is over.
+    fn end_wait(&mut self) {
+        if let Timer::Set(end, _) = self.timer {
+            self.timer = Timer::Stale(end);
+        }
+    }
+
+    /// Notes whether a call that waits is in line, or its turn has come.
+    pub(crate) fn note_line(&mut self, is_in_line: bool) {
+        if !is_in_line {
+            self.line = Line::Nowhere;
+        } else if self.line == Line::Nowhere {
+            self.line = Line::In;
+        }
     }
 
     /// Notes why the connection is to be closed. The first reason stays.
@@ -219,10 +248,15 @@ impl Standing {
     /// Notes output. The time in which the peer has to accept some begins if it accepted some, or had none before, and
     /// some is left.
     pub(crate) fn note_sent(&mut self, begins: bool, is_left: bool) {
-        if self.over == Some(Timed::Room) && (begins || !is_left) {
-            self.over = None;
+        if !begins && is_left {
+            return;
         }
-        self.begins = self.begins || (begins && is_left);
+        if self.timer == Timer::Expired(Timed::Room) {
+            self.timer = Timer::Unset;
+        }
+        if is_left {
+            self.end_wait();
+        }
     }
 
     /// Notes whether room is to be reported. Returns true if that is new.
@@ -230,31 +264,40 @@ impl Standing {
         mem::replace(&mut self.awaits_room, awaits_room) != awaits_room
     }
 
-    /// Returns the deadline of its timer.
-    pub(crate) fn timer(&self) -> Option<u64> {
-        let (end, _) = self.timer?;
-        Some(end)
+    /// Returns the deadline that its timer is set to.
+    pub(crate) fn deadline(&self) -> Option<u64> {
+        match self.timer {
+            Timer::Set(end, _) | Timer::Stale(end) => Some(end),
+            _ => None,
+        }
+    }
+
+    /// Returns true if its timer is set for this.
+    pub(crate) fn is_timed(&self, awaited: Timed) -> bool {
+        match self.timer {
+            Timer::Set(_, timed) => timed == awaited,
+            _ => false,
+        }
     }
 
     /// Notes that its timer is set to this deadline.
     pub(crate) fn set_timer(&mut self, end: u64, timed: Timed) {
-        self.timer = Some((end, timed));
+        self.timer = Timer::Set(end, timed);
     }
 
-    /// Cancels the timer if it belongs to another wait, and returns its deadline.
-    pub(crate) fn take_other_timer(&mut self, awaited: Option<(Timed, u32)>) -> Option<u64> {
-        let begins = mem::replace(&mut self.begins, false);
-        let (end, timed) = self.timer?;
-        if !begins && is_for(timed, awaited) {
-            return None;
-        }
-        self.timer = None;
+    /// Cancels its timer, and returns the deadline that it was set to.
+    pub(crate) fn cancel_timer(&mut self) -> Option<u64> {
+        let end = self.deadline()?;
+        self.timer = Timer::Unset;
         Some(end)
     }
 
-    /// Returns true if a call of it waits in no line, and is to be made again.
-    pub(crate) fn has_no_line(&self) -> bool {
-        self.has_no_line
+    /// Returns true if it awaits the turn of a call that is in no line, so that the call is to be made again.
+    pub(crate) fn lacks_line(&self, awaits: Awaits) -> bool {
+        match awaits {
+            Awaits::Turn(_) => self.line == Line::Nowhere,
+            _ => false,
+        }
     }
 
     /// Returns what it waits for now.
@@ -281,12 +324,11 @@ impl Standing {
 
     /// Returns what it waits for with output that the peer hasn't accepted.
     fn awaits_peer(&self) -> Awaits
-        ensures { result ≡ Awaits.End → self.now.over ≡ Some Timed.Room }
+        ensures { result ≡ Awaits.End → self.now.timer ≡ Expired Timed.Room }
     {
-        if self.over == Some(Timed::Room) {
-            Awaits::End
-        } else {
-            Awaits::Room(UNREAD_MILLISECONDS)
+        match self.timer {
+            Timer::Expired(Timed::Room) => Awaits::End,
+            _ => Awaits::Room(UNREAD_MILLISECONDS),
         }
     }
 
@@ -294,21 +336,11 @@ impl Standing {
     fn awaits_input(&self, has_next: bool) -> Awaits
         ensures { result ≡ Awaits.End → ⊥ }
     {
-        if self.lacks_memory {
-            return Awaits::Memory(RETRY_MILLISECONDS);
+        match self.input {
+            Input::NoMemory => Awaits::Memory(RETRY_MILLISECONDS),
+            Input::Ready => Awaits::Nothing,
+            Input::Drained if has_next => Awaits::Nothing,
+            Input::Drained => Awaits::Input,
         }
-        if self.may_read || has_next {
-            Awaits::Nothing
-        } else {
-            Awaits::Input
-        }
-    }
-}
-
-/// Returns true if this is what a timer is to be set for.
-fn is_for(timed: Timed, awaited: Option<(Timed, u32)>) -> bool {
-    match awaited {
-        Some((awaited, _)) => awaited == timed,
-        None => false,
     }
 }

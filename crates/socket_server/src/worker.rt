@@ -268,7 +268,7 @@ impl<'a, R: Wait + Clock + AllocGlobal, C: Serves<A>, A: Served + Drop> Work<'a,
         if !client.is_over() {
             return;
         }
-        if let Some(end) = client.standing.timer() {
+        if let Some(end) = client.standing.deadline() {
             self.tools.timers.clear(end, session);
         }
         if client.waits() {

@@ -171,9 +171,9 @@ fn records_go_to_the_segment_of_the_newest_image(rt: HostRuntime) {
 }
 
 // Number of device calls in the opening of such a store: four syncs, four headers, the image's version, length and
-// encoding, the version and the batches of two segments; four calls that clear the next image, one for its encoding,
+// encoding, the version and the batches of two segments; three calls that clear the next image, one for its encoding,
 // two for its header and two for its gate; and the two that end the segment.
-const CALLS: u64 = 26;
+const CALLS: u64 = 25;
 
 // Returns the fault of an opening during which a crash may occur, and the result of opening the store again.
 fn stopped<S: Store + Drop>(

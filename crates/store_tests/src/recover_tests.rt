@@ -248,7 +248,7 @@ fn crashes_within_an_append(rt: HostRuntime) {
 type Described = (bool, u8, usize, u64, Found);
 
 static STORES: [Described; 3] = [
-    (false, 0, 0, 24, EMPTY),
+    (false, 0, 0, 23, EMPTY),
     (true, 1, 70, 15, STORED),
     (true, 100, 5_317, 15, HUNDRED),
 ];

@@ -11,6 +11,6 @@ returns-in-Ok g c =
     let below : length given.field-0.now < 2 = search rules in
     let first : c.store-item.result ≡ get_or given.field-0.now 0 c.store-item.result = search rules in
     let named =
-    one_word string_bytes c.args.words given.field-0 c.store-item.result c.as_str-2.result.now given.is least below first
-    c.as_str-2.ensures.value in
+    one_word string_bytes c.args.words given.field-0 c.store-item.result c.as_str-in-Ok.result.now given.is least below first
+    c.as_str-in-Ok.ensures.value in
     record { ended = ends_named _ _ _ _ _ _ _ _ _ c.serve_locked-end.result named c.serve_locked-end.ensures.ended }

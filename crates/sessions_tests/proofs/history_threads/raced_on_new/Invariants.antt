@@ -1,5 +1,7 @@
 use Rattle.std.specs.Arc.{arc_value}
+use Rattle.history.specs.Marks.{no_table}
+use Rattle.ipc_model.specs.state.State.{opening_state}
 use Rattle.sessions_tests.proofs.history_threads.raced_on_new.Given as goal
 
-abbrev pub ghosts-raced : goal.ghosts-raced
-ghosts-raced g a = record { first = arc_value a.row }
+abbrev pub ghosts-raced-L-Founding : goal.ghosts-raced-L-Founding
+ghosts-raced-L-Founding g a = record { first = arc_value a.row; table = no_table; base = opening_state }
