@@ -62,14 +62,14 @@ fn is_left(stop_at: u64, seen: (u64, Option<Known>)) -> bool {
     };
     // The call after the last answered one was being made; the third has no record.
     let is_found = acknowledged.min(2) <= found && found <= acknowledged.saturating_add(1).min(2);
-    is_found && (port, set, acknowledged == 3) == (1 <= found, 2 <= found, stop_at == 33)
+    is_found && (port, set, acknowledged == 3) == (1 <= found, 2 <= found, stop_at == 32)
 }
 
 #[test]
 fn a_crash_leaves_the_calls_that_were_answered(rt: HostRuntime) {
-    // A new store is made with 24 device calls, and two appends make eight.
+    // A new store is made with 23 device calls, and two appends make eight.
     for torn in &KINDS {
-        for stop_at in 1..34 {
+        for stop_at in 1..33 {
             let seen = stopped::<MemDisk>(rt.alloc(), stop_at, *torn);
             same_in_row(&rt, (torn, stop_at, seen), is_left(stop_at, seen), true);
         }
